@@ -1,0 +1,5 @@
+pub mod Ring
+pub mod Sizes
+pub mod Rounding
+pub mod Sums
+pub mod Machine

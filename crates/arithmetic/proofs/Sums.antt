@@ -1,0 +1,70 @@
+-- Sums over a list, and what stands in a list of places.
+use mathlib.Core.Path.{_≡_, refl, sym, ap, subst, _∙_}
+use mathlib.Core.List.{List, [], _∷_, _++_, append-assoc}
+use Prim.Native.Nat.{ℕ, zero, suc, _+_, _≤_, _<_}
+use native.Mathlib.Omega.{arith}
+use lib.IntN.{ℤ, pos, _+ℤ_, _-ℤ_, _*ℤ_, natAbs, +ℤ-assoc, +ℤ-idl}
+use lib.ListN.{length, getD, take, drop}
+use lib.Signed.{_≤ℤ_}
+use borrow.Author.Differences.{ints}
+use Rattle.std.specs.Joined.{joined}
+use Rattle.std.specs.Vec.{listOf}
+use Rattle.std.specs.shelf.Lists.{sumBy, All, Has}
+use Rattle.std.specs.declared.option.Option.{Option}
+use Rattle.std.specs.declared.option.Option.the-variants.{Some, None}
+use Rattle.std.proofs.shelf.Lists.{take-more, joined-more, take-append-drop}
+use Rattle.std.proofs.shelf.Elements.{has-append-left, has-push}
+use Rattle.std.proofs.shelf.Sums.{sumBy-cons}
+use Rattle.arithmetic.specs.Sums.{sumZ}
+use Rattle.arithmetic.proofs.Ring.{int, _:+_, _:-_, _times_, ring}
+use Rattle.arithmetic.proofs.Sizes.{abs-sum}
+
+-- One element more.
+pub sumZ-push : {A : Type 0} (f : A → ℤ) (xs : List A) (x : A) → sumZ f (xs ++ x ∷ []) ≡ sumZ f xs +ℤ f x
+unfolding sumZ
+sumZ-push f [] x = omega (arith, ints)
+sumZ-push f (y ∷ xs) x = ap (λ z. f y +ℤ z) (sumZ-push f xs x) ∙ sym (+ℤ-assoc (f y) (sumZ f xs) (f x))
+
+pub sumZ-none : {A : Type 0} (f : A → ℤ) → sumZ f [] ≡ pos 0
+unfolding sumZ
+sumZ-none f = refl
+
+-- A bound on k times each figure's distance from another is a bound on their sums'.
+pub sumZ-near : {A : Type 0} (k : ℕ) (f e : A → ℤ) (t : A → ℕ) → ((x : A) → natAbs (pos k *ℤ f x -ℤ e x) ≤ t x)
+    → (xs : List A) → natAbs (pos k *ℤ sumZ f xs -ℤ sumZ e xs) ≤ sumBy t xs
+unfolding sumZ
+sumZ-near k f e t h [] = omega (arith, ints)
+sumZ-near k f e t h (x ∷ xs) =
+    let a = k times int (f x) :- int (e x) in
+    let b = k times int (sumZ f xs) :- int (sumZ e xs) in
+    let r = ring (k times (int (f x) :+ int (sumZ f xs)) :- (int (e x) :+ int (sumZ e xs))) (a :+ b) (omega arith) in
+    omega (arith, ap natAbs r, abs-sum (pos k *ℤ f x -ℤ e x) (pos k *ℤ sumZ f xs -ℤ sumZ e xs), h x, sumZ-near k f e t h xs, sumBy-cons t x xs)
+
+-- What stands in one place more.
+pub standing-more : {A : Type 0} (xs : List (Option A)) (k : ℕ) → k < length xs
+    → joined listOf (take (k + 1) xs) ≡ joined listOf (take k xs) ++ listOf (getD xs k None)
+standing-more xs k h = ap (joined listOf) (take-more xs k None h) ∙ sym (joined-more listOf [] (take k xs) (getD xs k None))
+
+-- What stands in places one after another.
+pub standing-append : {A : Type 0} (xs ys : List (Option A)) → joined listOf (xs ++ ys) ≡ joined listOf xs ++ joined listOf ys
+standing-append [] ys = refl
+standing-append (x ∷ xs) ys = ap (λ zs. listOf x ++ zs) (standing-append xs ys) ∙ sym (append-assoc (listOf x) (joined listOf xs) (joined listOf ys))
+
+-- A sum of figures that are not negative is not negative, and none of them exceeds it.
+pub sumZ-positive : {A : Type 0} (f : A → ℤ) (xs : List A) → All (λ x. pos 0 ≤ℤ f x) xs → pos 0 ≤ℤ sumZ f xs
+unfolding sumZ
+sumZ-positive f [] h = omega (arith, ints)
+sumZ-positive f (x ∷ xs) h = let p = h .0 in let q = sumZ-positive f xs (h .1) in omega (arith, ints)
+
+pub sumZ-part : {A : Type 0} (f : A → ℤ) (xs : List A) (k : ℕ) (d : A) → k < length xs → All (λ x. pos 0 ≤ℤ f x) xs → f (getD xs k d) ≤ℤ sumZ f xs
+unfolding sumZ
+sumZ-part f [] k d l h = absurd (omega arith)
+sumZ-part f (x ∷ xs) zero d l h = let q = sumZ-positive f xs (h .1) in omega (arith, ints)
+sumZ-part f (x ∷ xs) (suc k) d l h = let p = h .0 in let q = sumZ-part f xs k d (omega arith) (h .1) in omega (arith, ints)
+
+pub standing-has : {A : Type 0} (xs : List (Option A)) (k : ℕ) (x : A) → k < length xs → getD xs k None ≡ Some x → Has (joined listOf xs) x
+standing-has xs k x l e =
+    let whole : joined listOf xs ≡ (joined listOf (take k xs) ++ x ∷ []) ++ joined listOf (drop (k + 1) xs) =
+        ap (joined listOf) (sym (take-append-drop (k + 1) xs)) ∙ standing-append (take (k + 1) xs) (drop (k + 1) xs)
+        ∙ ap (λ zs. zs ++ joined listOf (drop (k + 1) xs)) (standing-more xs k l ∙ ap (λ o. joined listOf (take k xs) ++ listOf o) e) in
+    subst (λ zs. Has zs x) (sym whole) (has-append-left (joined listOf (take k xs) ++ x ∷ []) (joined listOf (drop (k + 1) xs)) x (has-push (joined listOf (take k xs)) x))

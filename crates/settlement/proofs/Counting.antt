@@ -1,0 +1,112 @@
+-- Counting the records of an hour, one place after another.
+use mathlib.Core.Path.{_≡_, refl, sym, ap, _∙_}
+use mathlib.Core.List.{List, [], _∷_, _++_}
+use Prim.Native.Nat.{ℕ, _+_, _*_, _^_, _≤_, _<_}
+use native.Mathlib.Omega.{arith}
+use native.Mathlib.Nat.{mul-le-mul}
+use lib.Dec.{lit≤}
+use lib.IntN.{ℤ, pos, natAbs, _+ℤ_, _*ℤ_}
+use lib.ListN.{length, getD, take, drop}
+use Rattle.std.specs.Joined.{joined}
+use Rattle.std.specs.Vec.{listOf}
+use Rattle.std.specs.declared.option.Option.{Option}
+use Rattle.std.specs.declared.option.Option.the-variants.{Some, None}
+use Rattle.std.specs.declared.result.Result.the-variants.{Ok, Err}
+use Rattle.std.proofs.shelf.Lists.{length-push, take-all, take-append-drop, append-nil}
+use Rattle.std.proofs.shelf.Sums.{sumBy-push}
+use Rattle.arithmetic.specs.Sums.{sumZ}
+use Rattle.arithmetic.proofs.Sizes.{abs-sum, abs-product}
+use Rattle.arithmetic.proofs.Sums.{sumZ-push, sumZ-none, standing-more, standing-append}
+use Rattle.settlement.specs.declared.figures.Interval.{Interval}
+use Rattle.settlement.specs.declared.figures.Tally.{Tally}
+use Rattle.settlement.specs.declared.limits.Refusal.{Refusal}
+use Rattle.settlement.specs.Limits.{interval-refusal, ruled}
+use Rattle.settlement.proofs.Ranges.{sound}
+use Rattle.settlement.specs.Formulas.{tally-of, seconds-of, volume-of, first, records-refusal}
+
+-- What an interval adds to a tally.
+abbrev pub counted-with : Tally → Interval → Tally
+counted-with t i = record { intervals = t .intervals + 1; seconds = t .seconds + i .seconds; volume = t .volume +ℤ i .average *ℤ pos (i .seconds) }
+
+tally-push : (is : List Interval) (i : Interval) → counted-with (tally-of is) i ≡ tally-of (is ++ i ∷ [])
+tally-push is i =
+    let n = length-push is i in
+    let s = sumBy-push (λ (i : Interval). i .seconds) is i in
+    let v = sumZ-push (λ (i : Interval). i .average *ℤ pos (i .seconds)) is i in
+    λ k. record { intervals = sym n k; seconds = sym s k; volume = sym v k }
+
+-- What an answer tells of the ruling.
+pub ruled-ok : {A : Type 0} (o : Option Refusal) (a x : A) → Ok x ≡ ruled o a → (o ≡ None) × (x ≡ a)
+ruled-ok None a x e = (refl, cc)
+ruled-ok (Some r) a x e = let z : _≡_ {A = ℕ} 0 1 = cc in absurd (omega arith)
+
+pub ruled-err : {A : Type 0} (o : Option Refusal) (a : A) (r : Refusal) → Err r ≡ ruled o a → o ≡ Some r
+ruled-err None a r e = let z : _≡_ {A = ℕ} 0 1 = cc in absurd (omega arith)
+ruled-err (Some q) a r e = cc
+
+-- The first refusal of two lists.
+first-none : (a b : Option Refusal) → a ≡ None → first a b ≡ b
+first-none a b e = ap (λ r. first r b) e
+
+first-assoc : (a b c : Option Refusal) → first a (first b c) ≡ first (first a b) c
+first-assoc None b c = refl
+first-assoc (Some r) b c = refl
+
+pub refusal-append : (is js : List Interval) → records-refusal (is ++ js) ≡ first (records-refusal is) (records-refusal js)
+unfolding records-refusal
+refusal-append [] js = refl
+refusal-append (i ∷ is) js =
+    ap (first (interval-refusal i)) (refusal-append is js) ∙ first-assoc (interval-refusal i) (records-refusal is) (records-refusal js)
+
+-- The first k places are counted, and break no limit.
+pub record Counted (xs : List (Option Interval)) (k : ℕ) (t : Tally) : Type 0 where
+  pub is : t ≡ tally-of (joined listOf (take k xs))
+  pub passed : records-refusal (joined listOf (take k xs)) ≡ None
+  pub few : t .intervals ≤ k
+  pub short : t .seconds ≤ k * 2 ^ 16
+  pub small : natAbs (t .volume) ≤ k * 2 ^ 47
+
+pub counted-none : (xs : List (Option Interval)) → Counted xs 0 (record { intervals = 0; seconds = 0; volume = pos 0 })
+unfolding records-refusal
+counted-none xs =
+    record {
+      is = λ k. record { intervals = 0; seconds = 0; volume = sym (sumZ-none (λ (i : Interval). i .average *ℤ pos (i .seconds))) k };
+      passed = refl; few = lit≤ tt; short = lit≤ tt; small = lit≤ tt
+    }
+
+pub counted-empty : (xs : List (Option Interval)) (k : ℕ) (t : Tally) → k < length xs → getD xs k None ≡ None → Counted xs k t → Counted xs (k + 1) t
+counted-empty xs k t l e c =
+    let more : joined listOf (take (k + 1) xs) ≡ joined listOf (take k xs) = standing-more xs k l ∙ ap (λ o. joined listOf (take k xs) ++ listOf o) e ∙ append-nil (joined listOf (take k xs)) in
+    record {
+      is = c .is ∙ ap tally-of (sym more); passed = ap records-refusal more ∙ c .passed;
+      few = omega (arith, c .few); short = omega (arith, c .short); small = omega (arith, c .small)
+    }
+
+pub counted-more : (xs : List (Option Interval)) (k : ℕ) (t t′ : Tally) (i : Interval) → k < length xs → getD xs k None ≡ Some i
+    → interval-refusal i ≡ None → Counted xs k t → t′ ≡ counted-with t i → Counted xs (k + 1) t′
+unfolding records-refusal
+counted-more xs k t t′ i l e ok c q =
+    let s = sound i ok in
+    let is = joined listOf (take k xs) in
+    let more : joined listOf (take (k + 1) xs) ≡ is ++ i ∷ [] = standing-more xs k l ∙ ap (λ o. joined listOf (take k xs) ++ listOf o) e in
+    let one : records-refusal (i ∷ []) ≡ None = first-none (interval-refusal i) None ok in
+    record {
+      is = q ∙ ap (λ t. counted-with t i) (c .is) ∙ tally-push is i ∙ ap tally-of (sym more);
+      passed = ap records-refusal more ∙ refusal-append is (i ∷ []) ∙ first-none (records-refusal is) (records-refusal (i ∷ [])) (c .passed) ∙ one;
+      few = omega (arith, ap (λ (t : Tally). t .intervals) q, c .few);
+      short = omega (arith, ap (λ (t : Tally). t .seconds) q, c .short, s .most);
+      small = omega (arith, ap (λ (t : Tally). natAbs (t .volume)) q, c .small, abs-sum (t .volume) (i .average *ℤ pos (i .seconds)), abs-product (i .average) (pos (i .seconds)), mul-le-mul (s .average .size) (s .most))
+    }
+
+-- A place that breaks a limit after others that break none is the first that does.
+pub counted-refused : (xs : List (Option Interval)) (k : ℕ) (t : Tally) (i : Interval) (r : Refusal) → k < length xs → getD xs k None ≡ Some i
+    → interval-refusal i ≡ Some r → Counted xs k t → records-refusal (joined listOf xs) ≡ Some r
+unfolding records-refusal
+counted-refused xs k t i r l e bad c =
+    let is = joined listOf (take k xs) in
+    let js = joined listOf (drop (k + 1) xs) in
+    let whole : joined listOf xs ≡ (is ++ i ∷ []) ++ js =
+        ap (joined listOf) (sym (take-append-drop (k + 1) xs)) ∙ standing-append (take (k + 1) xs) (drop (k + 1) xs)
+        ∙ ap (λ zs. zs ++ js) (standing-more xs k l ∙ ap (λ o. is ++ listOf o) e) in
+    let front = refusal-append is (i ∷ []) ∙ first-none (records-refusal is) (records-refusal (i ∷ [])) (c .passed) ∙ ap (λ o. first o None) bad in
+    ap records-refusal whole ∙ refusal-append (is ++ i ∷ []) js ∙ ap (λ o. first o (records-refusal js)) front

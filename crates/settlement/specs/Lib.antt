@@ -1,0 +1,4 @@
+pub mod Limits
+pub mod Editions
+pub mod Formulas
+pub mod Bounds

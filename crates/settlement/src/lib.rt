@@ -1,0 +1,11 @@
+// The settlement of one hour of a power station, to the cent.
+pub mod figures;
+pub mod limits;
+pub mod editions;
+mod tally;
+mod amounts;
+mod hour;
+
+pub use figures::{Interval, Schedule, Prices, Limits, SpinPrices, Region, Standing, Tally, IntervalFigures, Sums, State, Amounts, HourLine};
+pub use hour::Hour;
+pub use limits::{Refusal, check_reading};

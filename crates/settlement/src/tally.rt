@@ -1,0 +1,76 @@
+// Counting what stands in an hour.
+ghost use mathlib.Core.Path.{_≡_};
+ghost use Prim.Native.Nat.{_+_, _*_, _^_, _≤_};
+ghost use lib.IntN.{pos, natAbs, _+ℤ_, _*ℤ_};
+ghost use lib.ListN.{length};
+ghost use Rattle.std.specs.Joined.{joined};
+ghost use Rattle.std.specs.Vec.{listOf};
+ghost use Rattle.settlement.specs.Limits.{ruled, schedule-refusal, reading-refusal};
+ghost use Rattle.settlement.specs.Formulas.{intervals, tally-of, optional, records-refusal, hour-refusal};
+use crate::figures::{Interval, Schedule, Standing, Tally};
+use crate::limits::{Refusal, check_reading};
+
+impl Tally {
+    // One interval more. Twenty-four of any figures can be counted.
+    fn count(&mut self, interval: &Interval)
+        requires few { ⌜ now self .intervals ≤ 23 ⌝ }
+        requires short { ⌜ now self .seconds ≤ 23 * 2 ^ 16 ⌝ }
+        requires small { ⌜ natAbs (now self .volume) ≤ 23 * 2 ^ 47 ⌝ }
+        ensures { λ _. ⌜ now (self .exit) ≡ record { intervals = now (self .entry) .intervals + 1; seconds = now (self .entry) .seconds + now (interval .entry) .seconds; volume = now (self .entry) .volume +ℤ now (interval .entry) .average *ℤ pos (now (interval .entry) .seconds) } ⌝ }
+    {
+        self.intervals += 1;
+        self.seconds += interval.seconds as u32;
+        self.volume += interval.average as i64 * interval.seconds as i64;
+    }
+
+    // What stands in an hour's slots, or the first limit that a record breaks.
+    pub fn of(records: &[Option<Interval>; 24]) -> Result<Tally, Refusal>
+        ensures value { λ r. ⌜ r ≡ ruled (records-refusal (joined listOf (now (records .entry)))) (tally-of (joined listOf (now (records .entry)))) ⌝ }
+        ensures slots { λ _. ⌜ length (now (records .entry)) ≡ 24 ⌝ }
+    {
+        let mut tally = Tally { intervals: 0, seconds: 0, volume: 0 };
+        for record in records {
+            if let Some(interval) = record {
+                interval.check()?;
+                tally.count(interval);
+            }
+        }
+        Ok(tally)
+    }
+}
+
+// The row of an hour, where it has one, within its limits.
+fn check_row(row: &Option<Schedule>) -> Result<(), Refusal>
+    ensures { λ r. ⌜ r ≡ ruled (optional schedule-refusal (now (row .entry))) tt ⌝ }
+{
+    match row {
+        Some(row) => row.check(),
+        None => Ok(()),
+    }
+}
+
+// The reading of an hour, where it has one, within its limits.
+fn check_read(reading: Option<i32>) -> Result<(), Refusal>
+    ensures { λ r. ⌜ r ≡ ruled (optional reading-refusal reading) tt ⌝ }
+{
+    match reading {
+        Some(kwh) => check_reading(kwh),
+        None => Ok(()),
+    }
+}
+
+impl Standing {
+    // What stands in the hour, or the first limit that its figures break.
+    pub fn tally(&self) -> Result<Tally, Refusal>
+        ensures value { λ r. ⌜ r ≡ ruled (hour-refusal (now (self .entry))) (tally-of (intervals (now (self .entry)))) ⌝ }
+        ensures slots { λ _. ⌜ length (now (self .entry) .records) ≡ 24 ⌝ }
+    {
+        let tally = Tally::of(&self.records)?;
+        if tally.seconds > 3600 {
+            return Err(Refusal::Overfull);
+        }
+        check_row(&self.schedule)?;
+        check_read(self.reading)?;
+        Ok(tally)
+    }
+}
