@@ -3,3 +3,4 @@ pub mod Sizes
 pub mod Rounding
 pub mod Sums
 pub mod Machine
+pub mod Distance

@@ -10,14 +10,15 @@ infixl 6 _:+_ _:-_
 infixl 7 _:*_
 infixr 8 _times_
 
--- A polynomial: an integer, a natural, a sum, a difference, a product, or a natural number of times another. Write every
--- natural factor as the last: as an integer it would double the number of terms.
+-- A polynomial: an integer, a natural, a sum, a difference, a product, a negation, or a natural number of times another.
+-- Write every natural factor as the last: as an integer it would double the number of terms.
 pub data Poly : Type 0 where
   int : ℤ → Poly
   nat : ℕ → Poly
   _:+_ : Poly → Poly → Poly
   _:-_ : Poly → Poly → Poly
   _:*_ : Poly → Poly → Poly
+  neg : Poly → Poly
   _times_ : ℕ → Poly → Poly
 
 abbrev pub value : Poly → ℤ
@@ -26,6 +27,7 @@ value (nat n) = pos n
 value (p :+ q) = value p +ℤ value q
 value (p :- q) = value p -ℤ value q
 value (p :* q) = value p *ℤ value q
+value (neg p) = negℤ (value p)
 value (k times p) = pos k *ℤ value p
 
 -- The two naturals whose difference is the value.
@@ -36,6 +38,7 @@ abbrev mutual
   gain (p :+ q) = gain p + gain q
   gain (p :- q) = gain p + loss q
   gain (p :* q) = gain p * gain q + loss p * loss q
+  gain (neg p) = loss p
   gain (k times p) = k * gain p
 
   pub loss : Poly → ℕ
@@ -44,6 +47,7 @@ abbrev mutual
   loss (p :+ q) = loss p + loss q
   loss (p :- q) = loss p + gain q
   loss (p :* q) = gain p * loss q + loss p * gain q
+  loss (neg p) = gain p
   loss (k times p) = k * loss p
 
 -- The value is the difference of the two, also for a product of such differences.
@@ -64,6 +68,7 @@ reads (nat n) = omega arith
 reads (p :+ q) = omega (arith, sum-is (value p) (value q), reads p, reads q)
 reads (p :- q) = omega (arith, sum-is (value p) (negℤ (value q)), neg-is (value q), reads p, reads q)
 reads (p :* q) = product-reads (value p) (value q) (gain p) (loss p) (gain q) (loss q) (reads p) (reads q)
+reads (neg p) = omega (arith, neg-is (value p), reads p)
 reads (k times p) = omega (arith, product-is (pos k) (value p), ap (λ (t : ℕ). k * t) (reads p))
 
 -- Two polynomials are equal where one natural equation says so: answer it by `omega arith`.

@@ -1,9 +1,9 @@
 -- Sums over a list, and what stands in a list of places.
 use mathlib.Core.Path.{_≡_, refl, sym, ap, subst, _∙_}
 use mathlib.Core.List.{List, [], _∷_, _++_, append-assoc}
-use Prim.Native.Nat.{ℕ, zero, suc, _+_, _≤_, _<_}
+use Prim.Native.Nat.{ℕ, zero, suc, _+_, _*_, _≤_, _<_}
 use native.Mathlib.Omega.{arith}
-use lib.IntN.{ℤ, pos, _+ℤ_, _-ℤ_, _*ℤ_, natAbs, +ℤ-assoc, +ℤ-idl}
+use lib.IntN.{ℤ, pos, negℤ, _+ℤ_, _-ℤ_, _*ℤ_, natAbs, +ℤ-assoc, *ℤ-zero}
 use lib.ListN.{length, getD, take, drop}
 use lib.Signed.{_≤ℤ_}
 use borrow.Author.Differences.{ints}
@@ -16,7 +16,7 @@ use Rattle.std.proofs.shelf.Lists.{take-more, joined-more, take-append-drop}
 use Rattle.std.proofs.shelf.Elements.{has-append-left, has-push}
 use Rattle.std.proofs.shelf.Sums.{sumBy-cons}
 use Rattle.arithmetic.specs.Sums.{sumZ}
-use Rattle.arithmetic.proofs.Ring.{int, _:+_, _:-_, _times_, ring}
+use Rattle.arithmetic.proofs.Ring.{int, _:+_, _:-_, _:*_, _times_, ring}
 use Rattle.arithmetic.proofs.Sizes.{abs-sum}
 
 -- One element more.
@@ -68,3 +68,29 @@ standing-has xs k x l e =
         ap (joined listOf) (sym (take-append-drop (k + 1) xs)) ∙ standing-append (take (k + 1) xs) (drop (k + 1) xs)
         ∙ ap (λ zs. zs ++ joined listOf (drop (k + 1) xs)) (standing-more xs k l ∙ ap (λ o. joined listOf (take k xs) ++ listOf o) e) in
     subst (λ zs. Has zs x) (sym whole) (has-append-left (joined listOf (take k xs) ++ x ∷ []) (joined listOf (drop (k + 1) xs)) x (has-push (joined listOf (take k xs)) x))
+
+-- A place in which something stands is there.
+pub standing-place : {A : Type 0} (xs : List (Option A)) (k : ℕ) (x : A) → getD xs k None ≡ Some x → k < length xs
+standing-place [] k x e = let z : _≡_ {A = ℕ} 0 1 = cc in absurd (omega arith)
+standing-place (y ∷ xs) zero x e = omega arith
+standing-place (y ∷ xs) (suc k) x e = let l = standing-place xs k x e in omega arith
+
+-- Sums of multiples, of negated figures, and of naturals.
+pub sumZ-scale : {A : Type 0} (c : ℤ) (f : A → ℤ) (xs : List A) → sumZ (λ x. c *ℤ f x) xs ≡ c *ℤ sumZ f xs
+unfolding sumZ
+sumZ-scale c f [] = sym (*ℤ-zero c)
+sumZ-scale c f (x ∷ xs) = ap (λ z. c *ℤ f x +ℤ z) (sumZ-scale c f xs) ∙ ring (int c :* int (f x) :+ int c :* int (sumZ f xs)) (int c :* (int (f x) :+ int (sumZ f xs))) (omega arith)
+
+pub sumZ-neg : {A : Type 0} (f : A → ℤ) (xs : List A) → sumZ (λ x. negℤ (f x)) xs ≡ negℤ (sumZ f xs)
+unfolding sumZ
+sumZ-neg f [] = refl
+sumZ-neg f (x ∷ xs) = let e = sumZ-neg f xs in omega (arith, ints)
+
+pub sumZ-naturals : {A : Type 0} (f : A → ℕ) (xs : List A) → sumZ (λ x. pos (f x)) xs ≡ pos (sumBy f xs)
+unfolding sumZ
+sumZ-naturals f [] = refl
+sumZ-naturals f (x ∷ xs) = ap (λ z. pos (f x) +ℤ z) (sumZ-naturals f xs) ∙ ap pos (sym (sumBy-cons f x xs))
+
+pub sumBy-scale : {A : Type 0} (k : ℕ) (f : A → ℕ) (xs : List A) → sumBy (λ x. k * f x) xs ≡ k * sumBy f xs
+sumBy-scale k f [] = omega arith
+sumBy-scale k f (x ∷ xs) = omega (arith, sumBy-cons (λ x. k * f x) x xs, sumBy-cons f x xs, sumBy-scale k f xs, ap (λ (t : ℕ). k * t) (sumBy-cons f x xs))

@@ -6,3 +6,4 @@ pub mod Terms
 pub mod Signs
 pub mod Summing
 pub mod Sizing
+pub mod Nearness

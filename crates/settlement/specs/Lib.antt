@@ -2,3 +2,4 @@ pub mod Limits
 pub mod Editions
 pub mod Formulas
 pub mod Bounds
+pub mod Nearness

@@ -3,10 +3,13 @@ ghost use mathlib.Core.Path.{_≡_};
 ghost use mathlib.Core.Bool.{true};
 ghost use Prim.Native.Nat.{_*_, _≤_};
 ghost use lib.IntN.{natAbs};
+ghost use lib.ListN.{getD};
+ghost use Rattle.std.specs.declared.option.Option.the-variants.{None};
 ghost use Rattle.settlement.specs.Bounds.{small-line?};
-ghost use Rattle.settlement.specs.Formulas.{settled-by, settled-sums, ahead as aheadZ, line-of, hour-line};
+ghost use Rattle.settlement.specs.Nearness.{NearWhereSettled, SharesReading, SignFree};
+ghost use Rattle.settlement.specs.Formulas.{settled-by, settled-sums, ahead as aheadZ, line-of, hour-line, figures-at};
 use crate::editions::{Edition, Sign};
-use crate::figures::{Amounts, HourLine, Region, Schedule, State, Sums};
+use crate::figures::{Amounts, HourLine, Interval, IntervalFigures, Region, Schedule, State, Sums};
 use crate::hour::Hour;
 
 impl Hour {
@@ -77,8 +80,30 @@ impl Hour {
     // The hour's line under an edition.
     pub fn line<E: Edition>(&self, edition: &E, region: Region) -> HourLine
         ensures value { λ r. ⌜ r ≡ hour-line (E·Edition .terms (now (edition .entry))) region (now (self .entry) .standing) ⌝ }
+        ensures near { λ r. ⌜ NearWhereSettled (E·Edition .terms (now (edition .entry))) (now (self .entry) .standing) r ⌝ }
+        ensures shared { λ _. ⌜ SharesReading (now (self .entry) .standing) ⌝ }
+        ensures sign_free { λ r. ⌜ SignFree (E·Edition .terms (now (edition .entry))) region (now (self .entry) .standing) r ⌝ }
         ensures small { λ r. ⌜ small-line? r ≡ true ⌝ }
     {
         self.close(edition.sign(), &self.settled_sums(edition, region))
+    }
+
+    // The record that stands in a slot, if any.
+    pub fn record(&self, slot: u8) -> Option<Interval>
+        ensures { λ r. ⌜ r ≡ getD (now (self .entry) .standing .records) slot None ⌝ }
+    {
+        if slot >= 24 {
+            return None;
+        }
+        self.standing.records[slot as usize]
+    }
+
+    // The figures of the interval in a slot: none where nothing stands there or the hour is not settled.
+    pub fn figures<E: Edition>(&self, edition: &E, region: Region, slot: u8) -> Option<IntervalFigures>
+        ensures { λ r. ⌜ r ≡ figures-at (E·Edition .terms (now (edition .entry))) region (now (self .entry) .standing) slot ⌝ }
+    {
+        let row = self.settled_by()?;
+        let interval = self.record(slot)?;
+        Some(self.settle(edition, region, &row, &interval))
     }
 }

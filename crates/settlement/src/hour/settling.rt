@@ -57,7 +57,7 @@ impl Sums {
 
 impl Hour {
     // What one of the hour's intervals comes to, by the hour's schedule row.
-    fn settle<E: Edition>(&self, edition: &E, region: Region, row: &Schedule, interval: &Interval) -> IntervalFigures
+    pub(super) fn settle<E: Edition>(&self, edition: &E, region: Region, row: &Schedule, interval: &Interval) -> IntervalFigures
         requires one { ⌜ Has (intervals (now self .standing)) (now interval) ⌝ }
         requires row { ⌜ now self .standing .schedule ≡ Some (now row) ⌝ }
         ensures value { λ r. ⌜ r ≡ figuresZ (E·Edition .terms (now (edition .entry))) region (now (row .entry)) (now (self .entry) .standing) (now (interval .entry)) ⌝ }
