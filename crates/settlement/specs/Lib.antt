@@ -3,3 +3,4 @@ pub mod Editions
 pub mod Formulas
 pub mod Bounds
 pub mod Nearness
+pub mod Worked
