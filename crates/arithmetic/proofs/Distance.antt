@@ -19,9 +19,9 @@ distance d k A B G E q h l =
     let x = (B -ℤ G) *ℤ q -ℤ pos d *ℤ A in
     let y = E -ℤ pos k *ℤ B in
     let parts = ring
-            (2 times ((int E :- k times int G) :* int q) :- (2 * d * k) times int A)
-            ((2 * k) times ((int B :- int G) :* int q :- d times int A) :+ 2 times ((int E :- k times int B) :* int q))
-            (omega arith) in
+    (2 times ((int E :- k times int G) :* int q) :- (2 * d * k) times int A)
+    ((2 * k) times ((int B :- int G) :* int q :- d times int A) :+ 2 times ((int E :- k times int B) :* int q))
+    (omega arith) in
     let flip = abs-flip (pos (2 * d * k) *ℤ A) (pos 2 *ℤ ((E -ℤ pos k *ℤ G) *ℤ q)) in
     let s = abs-sum (pos (2 * k) *ℤ x) (pos 2 *ℤ (y *ℤ q)) in
     bound (natAbs q) (natAbs x) (natAbs y) _ _ _ _ _ _ h l flip (ap natAbs parts) s (abs-product (pos (2 * k)) x) (abs-product (pos 2) (y *ℤ q)) (abs-product y q)
@@ -35,9 +35,9 @@ pub share-near : (k : ℕ) (a m x : ℤ) (q : ℕ) → WithinHalf (pos 3600 *ℤ
 share-near k a m x q h =
     let y = pos 3600 *ℤ a *ℤ m -ℤ pos k *ℤ x in
     let parts = ring
-            (7200 times int m :* (int a :* nat q) :- (2 * k) times (int x :* nat q))
-            (2 times ((3600 times int a :* int m :- k times int x) :* nat q))
-            (omega arith) in
+    (7200 times int m :* (int a :* nat q) :- (2 * k) times (int x :* nat q))
+    (2 times ((3600 times int a :* int m :- k times int x) :* nat q))
+    (omega arith) in
     let flip = abs-flip (pos (2 * k) *ℤ (x *ℤ pos q)) (pos 7200 *ℤ m *ℤ (a *ℤ pos q)) in
     bound (natAbs y) _ _ _ _ h flip (ap natAbs parts) (abs-product (pos 2) (y *ℤ pos q)) (abs-product y (pos q))
   where

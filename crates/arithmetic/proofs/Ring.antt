@@ -9,7 +9,6 @@ use borrow.Author.Differences.{up, down, same-in, sum-is, neg-is, product-is}
 infixl 6 _:+_ _:-_
 infixl 7 _:*_
 infixr 8 _times_
-
 -- A polynomial: an integer, a natural, a sum, a difference, a product, a negation, or a natural number of times another.
 -- Write every natural factor as the last: as an integer it would double the number of terms.
 pub data Poly : Type 0 where

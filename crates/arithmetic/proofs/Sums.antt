@@ -65,8 +65,8 @@ sumZ-part f (x ∷ xs) (suc k) d l h = let p = h .0 in let q = sumZ-part f xs k 
 pub standing-has : {A : Type 0} (xs : List (Option A)) (k : ℕ) (x : A) → k < length xs → getD xs k None ≡ Some x → Has (joined listOf xs) x
 standing-has xs k x l e =
     let whole : joined listOf xs ≡ (joined listOf (take k xs) ++ x ∷ []) ++ joined listOf (drop (k + 1) xs) =
-        ap (joined listOf) (sym (take-append-drop (k + 1) xs)) ∙ standing-append (take (k + 1) xs) (drop (k + 1) xs)
-        ∙ ap (λ zs. zs ++ joined listOf (drop (k + 1) xs)) (standing-more xs k l ∙ ap (λ o. joined listOf (take k xs) ++ listOf o) e) in
+    ap (joined listOf) (sym (take-append-drop (k + 1) xs)) ∙ standing-append (take (k + 1) xs) (drop (k + 1) xs)
+    ∙ ap (λ zs. zs ++ joined listOf (drop (k + 1) xs)) (standing-more xs k l ∙ ap (λ o. joined listOf (take k xs) ++ listOf o) e) in
     subst (λ zs. Has zs x) (sym whole) (has-append-left (joined listOf (take k xs) ++ x ∷ []) (joined listOf (drop (k + 1) xs)) x (has-push (joined listOf (take k xs)) x))
 
 -- A place in which something stands is there.

@@ -20,9 +20,9 @@ use Rattle.arithmetic.proofs.Sums.{sumZ-push, sumZ-none, standing-more, standin
 use Rattle.settlement.specs.declared.figures.Interval.{Interval}
 use Rattle.settlement.specs.declared.figures.Tally.{Tally}
 use Rattle.settlement.specs.declared.limits.Refusal.{Refusal}
-use Rattle.settlement.specs.Limits.{interval-refusal, ruled}
+use Rattle.settlement.specs.Limits.{interval-refusal, ruled, first, records-refusal}
 use Rattle.settlement.proofs.Ranges.{sound}
-use Rattle.settlement.specs.Formulas.{tally-of, seconds-of, volume-of, first, records-refusal}
+use Rattle.settlement.specs.Standing.{tally-of, seconds-of, volume-of}
 
 -- What an interval adds to a tally.
 abbrev pub counted-with : Tally → Interval → Tally
@@ -71,15 +71,21 @@ unfolding records-refusal
 counted-none xs =
     record {
       is = λ k. record { intervals = 0; seconds = 0; volume = sym (sumZ-none (λ (i : Interval). i .average *ℤ pos (i .seconds))) k };
-      passed = refl; few = lit≤ tt; short = lit≤ tt; small = lit≤ tt
+      passed = refl;
+      few = lit≤ tt;
+      short = lit≤ tt;
+      small = lit≤ tt;
     }
 
 pub counted-empty : (xs : List (Option Interval)) (k : ℕ) (t : Tally) → k < length xs → getD xs k None ≡ None → Counted xs k t → Counted xs (k + 1) t
 counted-empty xs k t l e c =
     let more : joined listOf (take (k + 1) xs) ≡ joined listOf (take k xs) = standing-more xs k l ∙ ap (λ o. joined listOf (take k xs) ++ listOf o) e ∙ append-nil (joined listOf (take k xs)) in
     record {
-      is = c .is ∙ ap tally-of (sym more); passed = ap records-refusal more ∙ c .passed;
-      few = omega (arith, c .few); short = omega (arith, c .short); small = omega (arith, c .small)
+      is = c .is ∙ ap tally-of (sym more);
+      passed = ap records-refusal more ∙ c .passed;
+      few = omega (arith, c .few);
+      short = omega (arith, c .short);
+      small = omega (arith, c .small);
     }
 
 pub counted-more : (xs : List (Option Interval)) (k : ℕ) (t t′ : Tally) (i : Interval) → k < length xs → getD xs k None ≡ Some i
@@ -95,7 +101,7 @@ counted-more xs k t t′ i l e ok c q =
       passed = ap records-refusal more ∙ refusal-append is (i ∷ []) ∙ first-none (records-refusal is) (records-refusal (i ∷ [])) (c .passed) ∙ one;
       few = omega (arith, ap (λ (t : Tally). t .intervals) q, c .few);
       short = omega (arith, ap (λ (t : Tally). t .seconds) q, c .short, s .most);
-      small = omega (arith, ap (λ (t : Tally). natAbs (t .volume)) q, c .small, abs-sum (t .volume) (i .average *ℤ pos (i .seconds)), abs-product (i .average) (pos (i .seconds)), mul-le-mul (s .average .size) (s .most))
+      small = omega (arith, ap (λ (t : Tally). natAbs (t .volume)) q, c .small, abs-sum (t .volume) (i .average *ℤ pos (i .seconds)), abs-product (i .average) (pos (i .seconds)), mul-le-mul (s .average .size) (s .most));
     }
 
 -- A place that breaks a limit after others that break none is the first that does.
@@ -106,7 +112,7 @@ counted-refused xs k t i r l e bad c =
     let is = joined listOf (take k xs) in
     let js = joined listOf (drop (k + 1) xs) in
     let whole : joined listOf xs ≡ (is ++ i ∷ []) ++ js =
-        ap (joined listOf) (sym (take-append-drop (k + 1) xs)) ∙ standing-append (take (k + 1) xs) (drop (k + 1) xs)
-        ∙ ap (λ zs. zs ++ js) (standing-more xs k l ∙ ap (λ o. is ++ listOf o) e) in
+    ap (joined listOf) (sym (take-append-drop (k + 1) xs)) ∙ standing-append (take (k + 1) xs) (drop (k + 1) xs)
+    ∙ ap (λ zs. zs ++ js) (standing-more xs k l ∙ ap (λ o. is ++ listOf o) e) in
     let front = refusal-append is (i ∷ []) ∙ first-none (records-refusal is) (records-refusal (i ∷ [])) (c .passed) ∙ ap (λ o. first o None) bad in
     ap records-refusal whole ∙ refusal-append (is ++ i ∷ []) js ∙ ap (λ o. first o (records-refusal js)) front

@@ -70,7 +70,7 @@ newer-lawful =
     record {
       scales = λ f k a l h. chosen-scales (free? f) (set? f 32) (set? f 64) k a l h;
       steady = λ f a d l. chosen-steady (free? f) (set? f 32) (set? f 64) a d l;
-      bounded = λ f a l. chosen-bounded (free? f) (set? f 32) (set? f 64) a l
+      bounded = λ f a l. chosen-bounded (free? f) (set? f 32) (set? f 64) a l;
     }
 
 -- Raising to zero keeps the laws.
@@ -87,5 +87,5 @@ older-lawful =
     record {
       scales = λ f k a l h. ap (maxZ (pos 0)) (laws .scales f k a l h) ∙ floor-scales k (basis f a l) h;
       steady = λ f a d l. omega (arith, floor-steady (basis f (a +ℤ d) l) (basis f a l), laws .steady f a d l);
-      bounded = λ f a l. omega (arith, floor-bounded (basis f a l), laws .bounded f a l)
+      bounded = λ f a l. omega (arith, floor-bounded (basis f a l), laws .bounded f a l);
     }

@@ -29,7 +29,8 @@ use Rattle.settlement.specs.declared.figures.Standing.{Standing}
 use Rattle.settlement.specs.declared.editions.Sign.{Sign}
 use Rattle.settlement.specs.declared.editions.Sign.the-variants.{Plus, Minus}
 use Rattle.settlement.specs.Editions.{Terms, Lawful, scaled}
-use Rattle.settlement.specs.Formulas.{intervals, seconds, volume, settled-by, share, adjusted, basis, balance, amount, shown, figures, sums, settled-sums, hour-line}
+use Rattle.settlement.specs.Standing.{intervals, seconds, volume}
+use Rattle.settlement.specs.Formulas.{settled-by, share, adjusted, basis, balance, amount, shown, figures, sums, settled-sums, hour-line}
 use Rattle.settlement.specs.Nearness.{by-averages, divisor, metered, exact-basis, exact, tolerance, Near, NearLine, NearWhereSettled, SharesReading, SignFree}
 
 -- A basis, k times, is as near to the rule on other figures k times as large as the adjusted energy is to those.
@@ -52,15 +53,17 @@ basis-near e lawful h i = by-reading (h .reading) (volume h)
   where
     shared : ℤ → ℤ
     shared m = pos 3600 *ℤ i .average *ℤ m
+
     by-volume : (m s : ℤ) (t : Bool) → ltZ (pos 0) s ≡ t
         → WithinHalf (cond t (e .rule (i .flags) (pos 3600 *ℤ i .average *ℤ m) (scaled (natAbs s) (i .limits))) (e .rule (i .flags) (cond t (nearest (pos 3600 *ℤ i .average *ℤ m) (natAbs s)) m) (i .limits)))
-            (cond t (natAbs s) 1) (e .rule (i .flags) (cond t (nearest (pos 3600 *ℤ i .average *ℤ m) (natAbs s)) m) (i .limits))
+        (cond t (natAbs s) 1) (e .rule (i .flags) (cond t (nearest (pos 3600 *ℤ i .average *ℤ m) (natAbs s)) m) (i .limits))
     by-volume m s true h =
         rule-near e lawful (i .flags) (natAbs s) _ (pos 3600 *ℤ i .average *ℤ m) (i .limits) (above-zero s h) (nearest-near (pos 3600 *ℤ i .average *ℤ m) (natAbs s) (above-zero s h))
     by-volume m s false h = itself (e .rule (i .flags) m (i .limits))
+
     by-reading : (o : Option ℤ) (s : ℤ)
         → WithinHalf (cond (by-averages o s) (e .rule (i .flags) (pos 3600 *ℤ i .average *ℤ metered o) (scaled (natAbs s) (i .limits))) (e .rule (i .flags) (share o s (i .average)) (i .limits)))
-            (cond (by-averages o s) (natAbs s) 1) (e .rule (i .flags) (share o s (i .average)) (i .limits))
+        (cond (by-averages o s) (natAbs s) 1) (e .rule (i .flags) (share o s (i .average)) (i .limits))
     by-reading None s = itself (e .rule (i .flags) (i .average) (i .limits))
     by-reading (Some m) s = by-volume m s (ltZ (pos 0) s) refl
 
@@ -93,8 +96,8 @@ near-line e lawful r h g settled =
       energy = subst (λ o. Near e g h (λ i. i .prices .energy) (settled-sums e r h o .energy)) (sym settled) (sum-near e lawful g h (λ i. i .prices .energy) _ (λ i. refl));
       loss = subst (λ o. Near e g h (λ i. i .prices .loss) (settled-sums e r h o .loss)) (sym settled) (sum-near e lawful g h (λ i. i .prices .loss) _ (λ i. refl));
       congestion =
-        subst (λ o. Near e g h (λ i. shown (e .sign) (i .prices .congestion)) (settled-sums e r h o .congestion)) (sym settled)
-        (sum-near e lawful g h (λ i. shown (e .sign) (i .prices .congestion)) _ (λ i. amount-shown (e .sign) (balance e g h i) (i .prices .congestion) (i .seconds)))
+          subst (λ o. Near e g h (λ i. shown (e .sign) (i .prices .congestion)) (settled-sums e r h o .congestion)) (sym settled)
+          (sum-near e lawful g h (λ i. shown (e .sign) (i .prices .congestion)) _ (λ i. amount-shown (e .sign) (balance e g h i) (i .prices .congestion) (i .seconds)));
     }
 
 -- The kW of an interval, over its seconds.
@@ -112,12 +115,12 @@ shared-by-averages h m read full some =
     let k = natAbs (volume h) in
     let above = above-zero (volume h) some in
     let each = λ (i : Interval). subst (λ (z : ℤ). natAbs (pos (2 * k) *ℤ (z *ℤ pos (i .seconds)) -ℤ pos 7200 *ℤ m *ℤ (i .average *ℤ pos (i .seconds))) ≤ k * i .seconds) (share-is h m true i read some)
-        (share-near k (i .average) m _ (i .seconds) (nearest-near (pos 3600 *ℤ i .average *ℤ m) k above)) in
+    (share-near k (i .average) m _ (i .seconds) (nearest-near (pos 3600 *ℤ i .average *ℤ m) k above)) in
     let near = sumZ-near (2 * k) (drawn h) (λ i. pos 7200 *ℤ m *ℤ (i .average *ℤ pos (i .seconds))) (λ i. k * i .seconds) each (intervals h) in
     let scaled-sum = sumZ-scale (pos 7200 *ℤ m) (λ (i : Interval). i .average *ℤ pos (i .seconds)) (intervals h) in
     let scaled-seconds = sumBy-scale k (λ (i : Interval). i .seconds) (intervals h) ∙ ap (λ n. k * n) full in
     let moved = subst (λ (n : ℕ). natAbs (pos (2 * k) *ℤ sumZ (drawn h) (intervals h) -ℤ pos 7200 *ℤ m *ℤ volume h) ≤ n) scaled-seconds
-        (subst (λ (z : ℤ). natAbs (pos (2 * k) *ℤ sumZ (drawn h) (intervals h) -ℤ z) ≤ sumBy (λ i. k * i .seconds) (intervals h)) scaled-sum near) in
+    (subst (λ (z : ℤ). natAbs (pos (2 * k) *ℤ sumZ (drawn h) (intervals h) -ℤ z) ≤ sumBy (λ i. k * i .seconds) (intervals h)) scaled-sum near) in
     whole-near k (sumZ (drawn h) (intervals h)) m (volume h) above (positive (volume h) some) moved
   where
     positive : (v : ℤ) → ltZ (pos 0) v ≡ true → v ≡ pos (natAbs v)
@@ -149,7 +152,7 @@ shown-twice Minus f is = ap negℤ (sumZ-neg f is) ∙ negℤ-negℤ (sumZ f is)
 -- The balancing total, from the congestion before it is given a sign.
 total-is : (e : Terms) (r : Region) (h : Standing) (o : Option Schedule)
     → settled-sums e r h o .energy +ℤ settled-sums e r h o .loss -ℤ shown (e .sign) (settled-sums e r h o .congestion)
-        ≡ settled-sums (record { rule = e .rule; sign = Plus }) r h o .energy +ℤ settled-sums (record { rule = e .rule; sign = Plus }) r h o .loss -ℤ settled-sums (record { rule = e .rule; sign = Plus }) r h o .congestion
+    ≡ settled-sums (record { rule = e .rule; sign = Plus }) r h o .energy +ℤ settled-sums (record { rule = e .rule; sign = Plus }) r h o .loss -ℤ settled-sums (record { rule = e .rule; sign = Plus }) r h o .congestion
 total-is e r h None = none (e .sign)
   where
     none : (sign : Sign) → pos 0 +ℤ pos 0 -ℤ shown sign (pos 0) ≡ pos 0

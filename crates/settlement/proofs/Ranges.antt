@@ -91,7 +91,7 @@ sound i e =
       spin = power (i .spin) (a .1);
       prices = priced (i .prices) (q .0);
       east = price (i .reserve .east) (q .1);
-      west = price (i .reserve .west) (p .1)
+      west = price (i .reserve .west) (p .1);
     }
 
 pub record Sold (g : Schedule) : Type 0 where

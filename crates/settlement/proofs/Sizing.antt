@@ -31,8 +31,10 @@ pub record Sized (a : Amounts) (n : ℕ) : Type 0 where
 pub amounts-sized : (sign : Sign) (e l c : ℤ) (n : ℕ) → natAbs e ≤ n → natAbs l ≤ n → natAbs c ≤ n → Sized (amounts sign e l c) n
 amounts-sized sign e l c n h k m =
     record {
-      energy = h; loss = k; congestion = m;
-      total = omega (arith, abs-sum (e +ℤ l) (negℤ (shown sign c)), abs-sum e l, abs-neg (shown sign c), shown-size sign c, h, k, m)
+      energy = h;
+      loss = k;
+      congestion = m;
+      total = omega (arith, abs-sum (e +ℤ l) (negℤ (shown sign c)), abs-sum e l, abs-neg (shown sign c), shown-size sign c, h, k, m);
     }
 
 sold-size : (g : Schedule) (p : ℤ) → Sold g → natAbs p ≤ 1000000 → natAbs (sold g p) ≤ 4000000000

@@ -43,7 +43,7 @@ module _ (f : Interval → ℤ) (B : ℕ) (xs : List (Option Interval)) where
       let more : joined listOf (take (k + 1) xs) ≡ joined listOf (take k xs) ++ i ∷ [] = standing-more xs k l ∙ ap (λ o. joined listOf (take k xs) ++ listOf o) e in
       record {
         is = q ∙ (λ n. c .is n +ℤ v n) ∙ sym (sumZ-push f (joined listOf (take k xs)) i) ∙ ap (sumZ f) (sym more);
-        size = omega (arith, ap natAbs q, abs-sum s x, c .size, h)
+        size = omega (arith, ap natAbs q, abs-sum s x, c .size, h);
       }
 
 -- The five sums of an hour.
@@ -57,8 +57,11 @@ pub record Summed (e : Terms) (r : Region) (g : Schedule) (h : Standing) (k : �
 pub summed-none : (e : Terms) (r : Region) (g : Schedule) (h : Standing) → Summed e r g h 0 no-sums
 summed-none e r g h =
     record {
-      balance = sum-none _ 4341600000000 (h .records); energy = sum-none _ 1206000000000 (h .records); loss = sum-none _ 1206000000000 (h .records);
-      congestion = sum-none _ 1206000000000 (h .records); spin = sum-none _ 1206000000000 (h .records)
+      balance = sum-none _ 4341600000000 (h .records);
+      energy = sum-none _ 1206000000000 (h .records);
+      loss = sum-none _ 1206000000000 (h .records);
+      congestion = sum-none _ 1206000000000 (h .records);
+      spin = sum-none _ 1206000000000 (h .records);
     }
 
 module _ (e : Terms) (r : Region) (g : Schedule) (h : Standing) (k : ℕ) (s : Sums) (c : Summed e r g h k s) (l : k < length (h .records)) where
@@ -69,7 +72,7 @@ module _ (e : Terms) (r : Region) (g : Schedule) (h : Standing) (k : ℕ) (s : S
         energy = sum-empty _ 1206000000000 (h .records) k _ l at (c .energy);
         loss = sum-empty _ 1206000000000 (h .records) k _ l at (c .loss);
         congestion = sum-empty _ 1206000000000 (h .records) k _ l at (c .congestion);
-        spin = sum-empty _ 1206000000000 (h .records) k _ l at (c .spin)
+        spin = sum-empty _ 1206000000000 (h .records) k _ l at (c .spin);
       }
 
 -- What an interval adds, and that it is small.
@@ -97,7 +100,7 @@ summed-more e r g h k s t i f c l at short is small adds =
       energy = sum-more _ 1206000000000 (h .records) k _ _ _ i l at (c .energy) (adds .energy) (ap (λ (f : IntervalFigures). f .energy) is) (small .energy);
       loss = sum-more _ 1206000000000 (h .records) k _ _ _ i l at (c .loss) (adds .loss) (ap (λ (f : IntervalFigures). f .loss) is) (small .loss);
       congestion = sum-more _ 1206000000000 (h .records) k _ _ _ i l at (c .congestion) (adds .congestion) (ap (λ (f : IntervalFigures). f .congestion) is) (small .congestion);
-      spin = sum-more _ 1206000000000 (h .records) k _ _ _ i l at (c .spin) (adds .spin) (ap (λ (f : IntervalFigures). f .spin) is) (small .spin)
+      spin = sum-more _ 1206000000000 (h .records) k _ _ _ i l at (c .spin) (adds .spin) (ap (λ (f : IntervalFigures). f .spin) is) (small .spin);
     }
 
 -- All places summed are the sums of the hour.

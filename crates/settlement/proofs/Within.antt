@@ -21,8 +21,8 @@ use Rattle.settlement.specs.declared.figures.Schedule.{Schedule}
 use Rattle.settlement.specs.declared.figures.Standing.{Standing}
 use Rattle.settlement.specs.declared.limits.Refusal.{Refusal}
 use Rattle.settlement.specs.declared.limits.Refusal.the-variants.{Overfull}
-use Rattle.settlement.specs.Limits.{unless, interval-refusal, schedule-refusal, reading-refusal}
-use Rattle.settlement.specs.Formulas.{intervals, seconds, volume, first, optional, records-refusal, hour-refusal}
+use Rattle.settlement.specs.Limits.{unless, interval-refusal, schedule-refusal, reading-refusal, first, optional, records-refusal, hour-refusal}
+use Rattle.settlement.specs.Standing.{intervals, seconds, volume}
 use Rattle.settlement.proofs.Ranges.{passed, Power, Sound, sound, metered}
 
 neither : (a b : Option Refusal) → first a b ≡ None → (a ≡ None) × (b ≡ None)

@@ -1,15 +1,12 @@
 -- The formulas of an hour, over whole numbers.
-use mathlib.Core.Bool.{Bool, true, false, cond}
-use mathlib.Core.List.{List, [], _∷_}
+use mathlib.Core.Bool.{cond}
+use mathlib.Core.List.{List}
 use Prim.Native.Nat.{ℕ}
-use lib.Dec.{eqb, leb}
+use lib.Dec.{eqb}
 use lib.IntN.{ℤ, pos, negℤ, natAbs, _+ℤ_, _-ℤ_, _*ℤ_}
 use lib.ListN.{length, getD}
 use lib.Signed.{ltZ}
-use Rattle.std.specs.Joined.{joined}
 use Rattle.std.specs.Options.{mapped}
-use Rattle.std.specs.Vec.{listOf}
-use Rattle.std.specs.shelf.Lists.{sumBy}
 use Rattle.std.specs.declared.option.Option.{Option}
 use Rattle.std.specs.declared.option.Option.the-variants.{Some, None}
 use Rattle.arithmetic.specs.Rounding.{nearest}
@@ -19,7 +16,6 @@ use Rattle.settlement.specs.declared.figures.IntervalFigures.{IntervalFigures}
 use Rattle.settlement.specs.declared.figures.Schedule.{Schedule}
 use Rattle.settlement.specs.declared.figures.SpinPrices.{SpinPrices}
 use Rattle.settlement.specs.declared.figures.Standing.{Standing}
-use Rattle.settlement.specs.declared.figures.Tally.{Tally}
 use Rattle.settlement.specs.declared.figures.Sums.{Sums}
 use Rattle.settlement.specs.declared.figures.Amounts.{Amounts}
 use Rattle.settlement.specs.declared.figures.HourLine.{HourLine}
@@ -29,51 +25,8 @@ use Rattle.settlement.specs.declared.figures.Region.{Region}
 use Rattle.settlement.specs.declared.figures.Region.the-variants.{East, West}
 use Rattle.settlement.specs.declared.editions.Sign.{Sign}
 use Rattle.settlement.specs.declared.editions.Sign.the-variants.{Plus, Minus}
-use Rattle.settlement.specs.declared.limits.Refusal.{Refusal}
-use Rattle.settlement.specs.declared.limits.Refusal.the-variants.{Overfull}
 use Rattle.settlement.specs.Editions.{Terms}
-use Rattle.settlement.specs.Limits.{unless, interval-refusal, schedule-refusal, reading-refusal}
-
--- The intervals that stand in an hour, in the order of their slots.
-abbrev pub intervals : Standing → List Interval
-intervals h = joined listOf (h .records)
-
-abbrev pub seconds-of : List Interval → ℕ
-seconds-of is = sumBy (λ i. i .seconds) is
-
--- What the averages come to, in kW seconds.
-abbrev pub volume-of : List Interval → ℤ
-volume-of is = sumZ (λ i. i .average *ℤ pos (i .seconds)) is
-
-abbrev pub seconds : Standing → ℕ
-seconds h = seconds-of (intervals h)
-
--- S: what the averages come to over an hour.
-abbrev pub volume : Standing → ℤ
-volume h = volume-of (intervals h)
-
--- The count of some intervals, their seconds and their volume.
-abbrev pub tally-of : List Interval → Tally
-tally-of is = record { intervals = length is; seconds = seconds-of is; volume = volume-of is }
-
--- The first refusal of two.
-abbrev pub first : Option Refusal → Option Refusal → Option Refusal
-first None next = next
-first (Some refusal) next = Some refusal
-
-abbrev pub optional : {A : Type 0} → (A → Option Refusal) → Option A → Option Refusal
-optional f None = None
-optional f (Some x) = f x
-
-unfoldable pub records-refusal : List Interval → Option Refusal
-records-refusal [] = None
-records-refusal (i ∷ is) = first (interval-refusal i) (records-refusal is)
-
-abbrev pub hour-refusal : Standing → Option Refusal
-hour-refusal h =
-    first (records-refusal (intervals h))
-    (unless (leb (seconds h) 3600) Overfull
-    (first (optional schedule-refusal (h .schedule)) (optional reading-refusal (h .reading))))
+use Rattle.settlement.specs.Standing.{intervals, seconds, volume}
 
 -- The row by which an hour is settled: its schedule row, where its standing seconds add up to 3,600.
 abbrev pub settled-by : Standing → Option Schedule
@@ -85,9 +38,11 @@ abbrev pub share : Option ℤ → ℤ → ℤ → ℤ
 share None s average = average
 share (Some m) s average = cond (ltZ (pos 0) s) (nearest (pos 3600 *ℤ average *ℤ m) (natAbs s)) m
 
+-- The adjusted energy of an interval, in kW.
 abbrev pub adjusted : Standing → Interval → ℤ
 adjusted h i = share (h .reading) (volume h) (i .average)
 
+-- The kW from which an interval is balanced.
 abbrev pub basis : Terms → Standing → Interval → ℤ
 basis e h i = e .rule (i .flags) (adjusted h i) (i .limits)
 
@@ -104,6 +59,7 @@ abbrev pub shown : Sign → ℤ → ℤ
 shown Plus z = z
 shown Minus z = negℤ z
 
+-- The price of reserve in a region.
 abbrev pub spin-price : Region → SpinPrices → ℤ
 spin-price East p = p .east
 spin-price West p = p .west
@@ -118,7 +74,7 @@ figures e r g h i =
       energy = amount (balance e g h i) (i .prices .energy) (i .seconds);
       loss = amount (balance e g h i) (i .prices .loss) (i .seconds);
       congestion = shown (e .sign) (amount (balance e g h i) (i .prices .congestion) (i .seconds));
-      spin = amount (i .spin -ℤ g .spin) (spin-price r (i .reserve)) (i .seconds)
+      spin = amount (i .spin -ℤ g .spin) (spin-price r (i .reserve)) (i .seconds);
     }
 
 -- What some intervals come to together.
@@ -129,9 +85,10 @@ sums e r g h is =
       energy = sumZ (λ i. figures e r g h i .energy) is;
       loss = sumZ (λ i. figures e r g h i .loss) is;
       congestion = sumZ (λ i. figures e r g h i .congestion) is;
-      spin = sumZ (λ i. figures e r g h i .spin) is
+      spin = sumZ (λ i. figures e r g h i .spin) is;
     }
 
+-- What no intervals come to.
 abbrev pub no-sums : Sums
 no-sums = record { balance = pos 0; energy = pos 0; loss = pos 0; congestion = pos 0; spin = pos 0 }
 
@@ -145,17 +102,20 @@ abbrev pub amounts : Sign → ℤ → ℤ → ℤ → Amounts
 amounts sign energy loss congestion =
     record { energy = energy; loss = loss; congestion = congestion; total = energy +ℤ loss -ℤ shown sign congestion }
 
--- What was sold the day before comes to at a price, in cents: 1,000 kW over an hour are a MWh.
+-- What was sold the day before comes to at a price, in cents: 1,000 kW are a MW.
 abbrev pub sold : Schedule → ℤ → ℤ
 sold g price = nearest ((g .generation -ℤ g .transactions) *ℤ price) 1000
 
+-- What a schedule row comes to, congestion negated.
 abbrev pub day-ahead : Schedule → Amounts
 day-ahead g = amounts Minus (sold g (g .prices .energy)) (sold g (g .prices .loss)) (negℤ (sold g (g .prices .congestion)))
 
+-- The same of an hour, and nothing where it has no row.
 abbrev pub ahead : Option Schedule → Amounts
 ahead None = amounts Minus (pos 0) (pos 0) (pos 0)
 ahead (Some g) = day-ahead g
 
+-- Whether a row settles the hour.
 abbrev pub state : Option Schedule → State
 state None = Unsettled
 state (Some g) = Settled
@@ -171,16 +131,18 @@ line-of sign h s =
       balance = s .balance;
       balancing = amounts sign (s .energy) (s .loss) (s .congestion);
       spin = s .spin;
-      total = ahead (h .schedule) .total +ℤ amounts sign (s .energy) (s .loss) (s .congestion) .total +ℤ s .spin
+      total = ahead (h .schedule) .total +ℤ amounts sign (s .energy) (s .loss) (s .congestion) .total +ℤ s .spin;
     }
 
+-- An hour's line under an edition, in a region.
 abbrev pub hour-line : Terms → Region → Standing → HourLine
 hour-line e r h = line-of (e .sign) h (settled-sums e r h (settled-by h))
 
--- The figures of the interval in a slot: none where nothing stands there or the hour is not settled.
+-- The figures of a record that may stand, in an hour that a row may settle.
 abbrev pub figures-in : Terms → Region → Standing → Option Schedule → Option Interval → Option IntervalFigures
 figures-in e r h None i = None
 figures-in e r h (Some g) i = mapped (figures e r g h) i
 
+-- The figures of the interval in a slot: none where nothing stands there or the hour is not settled.
 abbrev pub figures-at : Terms → Region → Standing → ℕ → Option IntervalFigures
 figures-at e r h slot = figures-in e r h (settled-by h) (getD (h .records) slot None)

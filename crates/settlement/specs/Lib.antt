@@ -1,6 +1,7 @@
+pub mod Standing
 pub mod Limits
 pub mod Editions
 pub mod Formulas
-pub mod Bounds
 pub mod Nearness
+pub mod Bounds
 pub mod Worked

@@ -1,4 +1,4 @@
--- The limits of the figures, and which of them is broken first.
+-- The limits of the figures, which of them is broken first, and the number of each refusal.
 use mathlib.Core.Bool.{Bool, cond, not, _&&_, _||_}
 use mathlib.Core.List.{List, [], _∷_}
 use Prim.Native.Nat.{ℕ}
@@ -15,6 +15,7 @@ use Rattle.settlement.specs.declared.figures.Schedule.{Schedule}
 use Rattle.settlement.specs.declared.figures.Prices.{Prices}
 use Rattle.settlement.specs.declared.figures.Limits.{Limits}
 use Rattle.settlement.specs.declared.figures.Standing.{Standing}
+use Rattle.settlement.specs.Standing.{intervals, seconds}
 use Rattle.settlement.specs.declared.limits.Refusal.{Refusal}
 use Rattle.settlement.specs.declared.limits.Refusal.the-variants.{Seconds, Flags, Power, Price, Overfull, Reading}
 
@@ -27,19 +28,23 @@ number Price = 10
 number Overfull = 11
 number Reading = 14
 
+-- x lies from low to high.
 abbrev pub between : ℤ → ℤ → ℤ → Bool
 between low high x = leZ low x && leZ x high
 
--- Outputs, transactions, reserve and readings are never negative; basepoints and energy limits may be.
+-- An output, a transaction, a reserve or a reading.
 abbrev pub power? : ℤ → Bool
 power? x = between (pos 0) (pos 2000000) x
 
+-- A basepoint or an energy limit, which may be negative.
 abbrev pub basepoint? : ℤ → Bool
 basepoint? x = between (negsuc 1999999) (pos 2000000) x
 
+-- A price.
 abbrev pub price? : ℤ → Bool
 price? x = between (negsuc 999999) (pos 1000000) x
 
+-- The three parts of a price.
 abbrev pub prices? : Prices → Bool
 prices? p = price? (p .energy) && price? (p .loss) && price? (p .congestion)
 
@@ -55,6 +60,7 @@ flags? f = leb f 127 && (not (set? f 16) || set? f 8)
 abbrev pub unless : Bool → Refusal → Option Refusal → Option Refusal
 unless ok refusal rest = cond ok rest (Some refusal)
 
+-- The two basepoints and the energy limit.
 abbrev pub limits? : Limits → Bool
 limits? l = basepoint? (l .rtd) && basepoint? (l .agc) && basepoint? (l .energy)
 
@@ -62,9 +68,11 @@ limits? l = basepoint? (l .rtd) && basepoint? (l .agc) && basepoint? (l .energy)
 abbrev pub length? : ℕ → Bool
 length? seconds = leb 6 seconds && leb seconds 3600
 
+-- The powers of a record.
 abbrev pub powers? : Interval → Bool
 powers? i = power? (i .average) && limits? (i .limits) && power? (i .transactions) && power? (i .spin)
 
+-- The prices of a record.
 abbrev pub real-time-prices? : Interval → Bool
 real-time-prices? i = prices? (i .prices) && price? (i .reserve .east) && price? (i .reserve .west)
 
@@ -76,6 +84,7 @@ interval-refusal i =
     (unless (powers? i) Power
     (unless (real-time-prices? i) Price None)))
 
+-- The powers of a schedule row.
 abbrev pub sold? : Schedule → Bool
 sold? g = power? (g .generation) && power? (g .transactions) && power? (g .spin)
 
@@ -83,6 +92,7 @@ sold? g = power? (g .generation) && power? (g .transactions) && power? (g .spin)
 abbrev pub schedule-refusal : Schedule → Option Refusal
 schedule-refusal g = unless (sold? g) Power (unless (prices? (g .prices)) Price None)
 
+-- The limit that a reading breaks.
 abbrev pub reading-refusal : ℤ → Option Refusal
 reading-refusal m = unless (power? m) Reading None
 
@@ -90,3 +100,26 @@ reading-refusal m = unless (power? m) Reading None
 abbrev pub ruled : {A : Type 0} → Option Refusal → A → Result A Refusal
 ruled None answer = Ok answer
 ruled (Some refusal) answer = Err refusal
+
+-- The first refusal of two.
+abbrev pub first : Option Refusal → Option Refusal → Option Refusal
+first None next = next
+first (Some refusal) next = Some refusal
+
+-- What refuses a figure that may be absent.
+abbrev pub optional : {A : Type 0} → (A → Option Refusal) → Option A → Option Refusal
+optional f None = None
+optional f (Some x) = f x
+
+-- The first limit that one of some records breaks.
+unfoldable pub records-refusal : List Interval → Option Refusal
+records-refusal [] = None
+records-refusal (i ∷ is) = first (interval-refusal i) (records-refusal is)
+
+-- The first limit that the figures of an hour break: record by record, then the seconds of the hour, then the schedule
+-- row, then the reading.
+abbrev pub hour-refusal : Standing → Option Refusal
+hour-refusal h =
+    first (records-refusal (intervals h))
+    (unless (leb (seconds h) 3600) Overfull
+    (first (optional schedule-refusal (h .schedule)) (optional reading-refusal (h .reading))))

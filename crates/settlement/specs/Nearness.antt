@@ -16,7 +16,8 @@ use Rattle.settlement.specs.declared.figures.Standing.{Standing}
 use Rattle.settlement.specs.declared.figures.HourLine.{HourLine}
 use Rattle.settlement.specs.declared.editions.Sign.{Sign}
 use Rattle.settlement.specs.Editions.{Terms, scaled}
-use Rattle.settlement.specs.Formulas.{intervals, volume, settled-by, adjusted, basis, shown, hour-line}
+use Rattle.settlement.specs.Standing.{intervals, volume}
+use Rattle.settlement.specs.Formulas.{settled-by, adjusted, basis, shown, hour-line}
 
 -- Whether a reading is shared by the averages: something was read, and S is above 0.
 abbrev pub by-averages : Option ℤ → ℤ → Bool

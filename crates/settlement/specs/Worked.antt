@@ -13,7 +13,8 @@ use Rattle.settlement.specs.declared.figures.Schedule.{Schedule}
 use Rattle.settlement.specs.declared.figures.Standing.{Standing}
 use Rattle.settlement.specs.declared.editions.Sign.{Sign}
 use Rattle.settlement.specs.Editions.{newer, older}
-use Rattle.settlement.specs.Formulas.{adjusted, amount, amounts, shown, day-ahead, intervals}
+use Rattle.settlement.specs.Standing.{intervals}
+use Rattle.settlement.specs.Formulas.{adjusted, amount, amounts, shown, day-ahead}
 
 abbrev pub prices : ℤ → ℤ → ℤ → Prices
 prices energy loss congestion = record { energy = energy; loss = loss; congestion = congestion }
@@ -29,8 +30,14 @@ gives energy loss congestion total = record { energy = energy; loss = loss; cong
 abbrev pub half-hour : ℤ → Interval
 half-hour average =
     record {
-      seconds = 1800; flags = 0; average = average; limits = record { rtd = pos 0; agc = pos 0; energy = pos 0 };
-      transactions = pos 0; spin = pos 0; prices = prices (pos 0) (pos 0) (pos 0); reserve = record { east = pos 0; west = pos 0 }
+      seconds = 1800;
+      flags = 0;
+      average = average;
+      limits = record { rtd = pos 0; agc = pos 0; energy = pos 0 };
+      transactions = pos 0;
+      spin = pos 0;
+      prices = prices (pos 0) (pos 0) (pos 0);
+      reserve = record { east = pos 0; west = pos 0 };
     }
 
 abbrev pub two-halves : ℤ → ℤ → ℤ → Standing

@@ -3,9 +3,13 @@ ghost use mathlib.Core.Path.{_≡_};
 ghost use Prim.Native.Nat.{_^_, _≤_};
 ghost use lib.IntN.{natAbs};
 ghost use Rattle.settlement.specs.Formulas.{amount as amountZ, shown as shownZ, spin-price, sold as soldZ, day-ahead, amounts};
-use arithmetic::{Divisor, nearest};
 use crate::editions::Sign;
-use crate::figures::{Amounts, Region, Schedule, SpinPrices};
+use crate::figures::Amounts;
+use crate::figures::Region;
+use crate::figures::Schedule;
+use crate::figures::SpinPrices;
+use arithmetic::Divisor;
+use arithmetic::nearest;
 
 const KW_SECONDS_PER_MWH: Divisor = Divisor { value: 3_600_000 };
 
@@ -55,7 +59,12 @@ impl Amounts {
         requires congestion { ⌜ natAbs congestion ≤ 2 ^ 56 ⌝ }
         ensures { λ r. ⌜ r ≡ amounts sign energy loss congestion ⌝ }
     {
-        Amounts { energy, loss, congestion, total: energy + loss - sign.shown(congestion) }
+        Amounts {
+            energy,
+            loss,
+            congestion,
+            total: energy + loss - sign.shown(congestion),
+        }
     }
 }
 
@@ -65,13 +74,21 @@ impl Schedule {
         ensures value { λ r. ⌜ r ≡ soldZ (now (self .entry)) price ⌝ }
         ensures bound { λ r. ⌜ natAbs r ≤ 2 ^ 56 ⌝ }
     {
-        nearest((self.generation as i64 - self.transactions as i64) * price as i64, KW_PER_MW)
+        nearest(
+            (self.generation as i64 - self.transactions as i64) * price as i64,
+            KW_PER_MW,
+        )
     }
 
     // What the row comes to, congestion negated.
     pub fn day_ahead(&self) -> Amounts
         ensures { λ r. ⌜ r ≡ day-ahead (now (self .entry)) ⌝ }
     {
-        Amounts::new(Sign::Minus, self.sold(self.prices.energy), self.sold(self.prices.loss), -self.sold(self.prices.congestion))
+        Amounts::new(
+            Sign::Minus,
+            self.sold(self.prices.energy),
+            self.sold(self.prices.loss),
+            -self.sold(self.prices.congestion),
+        )
     }
 }

@@ -1,8 +1,10 @@
 // The editions of the operator's text. An edition says from which kW an interval is balanced, and with which sign its
 // congestion is shown.
 ghost use mathlib.Core.Path.{_≡_};
-ghost use Rattle.settlement.specs.Editions.{Terms, Lawful, newer, older, held, scenario};
+ghost use Rattle.settlement.specs.Editions.{Terms, Lawful, newer, older, free?, held, scenario};
 use crate::figures::Limits;
+use crate::flags;
+use crate::flags::has;
 
 // The sign with which congestion is shown: as its price gives it, or negated.
 #[derive(Clone, Copy)]
@@ -24,16 +26,26 @@ pub enum Scenario {
     Limited(i32),
 }
 
+// Whether an interval is settled at its adjusted energy, whatever its limits.
+fn is_free(flags: u8) -> bool
+    ensures { λ r. ⌜ r ≡ free? flags ⌝ }
+{
+    has(flags, flags::LARGE_EVENT_PICKUP)
+        || has(flags, flags::PURPA_FIXED)
+        || has(flags, flags::OUT_OF_MERIT)
+        || (has(flags, flags::WIND) && !has(flags, flags::WIND_LIMITED))
+}
+
 impl Scenario {
     // The first scenario that applies.
     pub fn of(flags: u8, limits: &Limits) -> Scenario
         ensures { λ r. ⌜ r ≡ scenario flags (now (limits .entry)) ⌝ }
     {
-        if flags & 1 != 0 || flags & 2 != 0 || flags & 4 != 0 || (flags & 8 != 0 && flags & 16 == 0) {
+        if is_free(flags) {
             Scenario::Free
-        } else if flags & 32 != 0 {
+        } else if has(flags, flags::INTERVENTION) {
             Scenario::Intervention(limits.rtd)
-        } else if flags & 64 != 0 {
+        } else if has(flags, flags::REGULATING) {
             Scenario::Regulating(limits.agc)
         } else {
             Scenario::Limited(limits.energy)
@@ -91,7 +103,7 @@ pub impl Edition for Older as OlderEdition {
     ghost terms = { λ _. older };
 
     fn basis(&self, flags: u8, adjusted: i64, limits: &Limits) -> i64 {
-        Scenario::of(flags, limits).hold(adjusted).max(0)
+        Newer.basis(flags, adjusted, limits).max(0)
     }
 
     fn sign(&self) -> Sign {

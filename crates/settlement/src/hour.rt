@@ -8,8 +8,10 @@ ghost use lib.ListN.{length};
 ghost use Rattle.std.specs.Options.{isSome};
 ghost use Rattle.std.specs.Results.{Cases};
 ghost use Rattle.std.specs.declared.option.Option.the-variants.{Some, None};
-ghost use Rattle.settlement.specs.Formulas.{intervals, tally-of, hour-refusal};
-use crate::figures::{Standing, Tally};
+ghost use Rattle.settlement.specs.Limits.{hour-refusal};
+ghost use Rattle.settlement.specs.Standing.{intervals, tally-of};
+use crate::figures::Standing;
+use crate::figures::Tally;
 use crate::limits::Refusal;
 
 // An hour's figures, each within its limits, with at most 3,600 standing seconds.

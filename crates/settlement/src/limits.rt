@@ -1,7 +1,24 @@
 // The limits of the figures, and which of them is broken first.
 ghost use mathlib.Core.Path.{_≡_};
 ghost use Rattle.settlement.specs.Limits.{power?, basepoint?, price?, prices?, flags?, limits?, length?, sold?, powers?, real-time-prices?, ruled, interval-refusal, schedule-refusal, reading-refusal, number as numberOf};
-use crate::figures::{Interval, Limits, Prices, Schedule};
+use crate::figures::Interval;
+use crate::figures::Limits;
+use crate::figures::Prices;
+use crate::figures::Schedule;
+use crate::flags;
+use crate::flags::has;
+
+const LEAST_SECONDS: u16 = 6;
+
+const MOST_SECONDS: u16 = 3_600;
+
+// The largest power, basepoint, limit or reading, in kW or kWh.
+const MOST_KW: i32 = 2_000_000;
+
+// The largest price, in cents.
+const MOST_CENTS: i32 = 1_000_000;
+
+const ALL_FLAGS: u8 = 127;
 
 // The first limit that figures break.
 #[derive(Clone, Copy)]
@@ -30,36 +47,35 @@ impl Refusal {
     }
 }
 
-// An interval lasts from 6 seconds to an hour.
 fn is_length(seconds: u16) -> bool
     ensures { λ r. ⌜ r ≡ length? seconds ⌝ }
 {
-    seconds >= 6 && seconds <= 3600
+    seconds >= LEAST_SECONDS && seconds <= MOST_SECONDS
 }
 
 fn is_power(kw: i32) -> bool
     ensures { λ r. ⌜ r ≡ power? kw ⌝ }
 {
-    kw >= 0 && kw <= 2_000_000
+    kw >= 0 && kw <= MOST_KW
 }
 
 fn is_basepoint(kw: i32) -> bool
     ensures { λ r. ⌜ r ≡ basepoint? kw ⌝ }
 {
-    kw >= -2_000_000 && kw <= 2_000_000
+    kw >= -MOST_KW && kw <= MOST_KW
 }
 
 fn is_price(cents: i32) -> bool
     ensures { λ r. ⌜ r ≡ price? cents ⌝ }
 {
-    cents >= -1_000_000 && cents <= 1_000_000
+    cents >= -MOST_CENTS && cents <= MOST_CENTS
 }
 
 // A sum of the seven flags in which wind output is limited only where there is wind.
 fn are_flags(flags: u8) -> bool
     ensures { λ r. ⌜ r ≡ flags? flags ⌝ }
 {
-    flags <= 127 && (flags & 16 == 0 || flags & 8 != 0)
+    flags <= ALL_FLAGS && (!has(flags, flags::WIND_LIMITED) || has(flags, flags::WIND))
 }
 
 impl Prices {
@@ -82,7 +98,10 @@ impl Interval {
     fn powers_within(&self) -> bool
         ensures { λ r. ⌜ r ≡ powers? (now (self .entry)) ⌝ }
     {
-        is_power(self.average) && self.limits.within() && is_power(self.transactions) && is_power(self.spin)
+        is_power(self.average)
+            && self.limits.within()
+            && is_power(self.transactions)
+            && is_power(self.spin)
     }
 
     fn prices_within(&self) -> bool

@@ -5,10 +5,14 @@ ghost use lib.IntN.{pos, natAbs, _+ℤ_, _*ℤ_};
 ghost use lib.ListN.{length};
 ghost use Rattle.std.specs.Joined.{joined};
 ghost use Rattle.std.specs.Vec.{listOf};
-ghost use Rattle.settlement.specs.Limits.{ruled, schedule-refusal, reading-refusal};
-ghost use Rattle.settlement.specs.Formulas.{intervals, tally-of, optional, records-refusal, hour-refusal};
-use crate::figures::{Interval, Schedule, Standing, Tally};
-use crate::limits::{Refusal, check_reading};
+ghost use Rattle.settlement.specs.Limits.{ruled, schedule-refusal, reading-refusal, optional, records-refusal, hour-refusal};
+ghost use Rattle.settlement.specs.Standing.{intervals, tally-of};
+use crate::figures::Interval;
+use crate::figures::Schedule;
+use crate::figures::Standing;
+use crate::figures::Tally;
+use crate::limits::Refusal;
+use crate::limits::check_reading;
 
 impl Tally {
     // One interval more. Twenty-four of any figures can be counted.
@@ -24,11 +28,15 @@ impl Tally {
     }
 
     // What stands in an hour's slots, or the first limit that a record breaks.
-    pub fn of(records: &[Option<Interval>; 24]) -> Result<Tally, Refusal>
+    fn of(records: &[Option<Interval>; 24]) -> Result<Tally, Refusal>
         ensures value { λ r. ⌜ r ≡ ruled (records-refusal (joined listOf (now (records .entry)))) (tally-of (joined listOf (now (records .entry)))) ⌝ }
         ensures slots { λ _. ⌜ length (now (records .entry)) ≡ 24 ⌝ }
     {
-        let mut tally = Tally { intervals: 0, seconds: 0, volume: 0 };
+        let mut tally = Tally {
+            intervals: 0,
+            seconds: 0,
+            volume: 0,
+        };
         for record in records {
             if let Some(interval) = record {
                 interval.check()?;
@@ -61,7 +69,7 @@ fn check_read(reading: Option<i32>) -> Result<(), Refusal>
 
 impl Standing {
     // What stands in the hour, or the first limit that its figures break.
-    pub fn tally(&self) -> Result<Tally, Refusal>
+    pub(crate) fn tally(&self) -> Result<Tally, Refusal>
         ensures value { λ r. ⌜ r ≡ ruled (hour-refusal (now (self .entry))) (tally-of (intervals (now (self .entry)))) ⌝ }
         ensures slots { λ _. ⌜ length (now (self .entry) .records) ≡ 24 ⌝ }
     {

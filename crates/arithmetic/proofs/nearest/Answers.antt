@@ -25,7 +25,7 @@ promise n d r h e =
       value = e;
       within = subst (WithinHalf n d) (sym e) (nearest-near n d h);
       odd = nearest-neg n d ∙ ap negℤ (sym e);
-      exact = λ q f. e ∙ nearest-exact n d q h f
+      exact = λ q f. e ∙ nearest-exact n d q h f;
     }
 
 -- The rounded number, from the size of the number and its sign.

@@ -8,8 +8,16 @@ ghost use Rattle.std.specs.declared.option.Option.the-variants.{None};
 ghost use Rattle.settlement.specs.Bounds.{small-line?};
 ghost use Rattle.settlement.specs.Nearness.{NearWhereSettled, SharesReading, SignFree};
 ghost use Rattle.settlement.specs.Formulas.{settled-by, settled-sums, ahead as aheadZ, line-of, hour-line, figures-at};
-use crate::editions::{Edition, Sign};
-use crate::figures::{Amounts, HourLine, Interval, IntervalFigures, Region, Schedule, State, Sums};
+use crate::editions::Edition;
+use crate::editions::Sign;
+use crate::figures::Amounts;
+use crate::figures::HourLine;
+use crate::figures::Interval;
+use crate::figures::IntervalFigures;
+use crate::figures::Region;
+use crate::figures::Schedule;
+use crate::figures::State;
+use crate::figures::Sums;
 use crate::hour::Hour;
 
 impl Hour {
@@ -35,7 +43,13 @@ impl Hour {
     {
         match self.settled_by() {
             Some(row) => self.sums(edition, region, &row),
-            None => Sums { balance: 0, energy: 0, loss: 0, congestion: 0, spin: 0 },
+            None => Sums {
+                balance: 0,
+                energy: 0,
+                loss: 0,
+                congestion: 0,
+                spin: 0,
+            },
         }
     }
 
@@ -45,7 +59,12 @@ impl Hour {
     {
         match &self.standing.schedule {
             Some(row) => row.day_ahead(),
-            None => Amounts { energy: 0, loss: 0, congestion: 0, total: 0 },
+            None => Amounts {
+                energy: 0,
+                loss: 0,
+                congestion: 0,
+                total: 0,
+            },
         }
     }
 
@@ -92,14 +111,19 @@ impl Hour {
     pub fn record(&self, slot: u8) -> Option<Interval>
         ensures { λ r. ⌜ r ≡ getD (now (self .entry) .standing .records) slot None ⌝ }
     {
-        if slot >= 24 {
-            return None;
+        match self.standing.records.get(slot as usize) {
+            Some(record) => *record,
+            None => None,
         }
-        self.standing.records[slot as usize]
     }
 
     // The figures of the interval in a slot: none where nothing stands there or the hour is not settled.
-    pub fn figures<E: Edition>(&self, edition: &E, region: Region, slot: u8) -> Option<IntervalFigures>
+    pub fn figures<E: Edition>(
+        &self,
+        edition: &E,
+        region: Region,
+        slot: u8,
+    ) -> Option<IntervalFigures>
         ensures { λ r. ⌜ r ≡ figures-at (E·Edition .terms (now (edition .entry))) region (now (self .entry) .standing) slot ⌝ }
     {
         let row = self.settled_by()?;

@@ -5,10 +5,15 @@ ghost use lib.IntN.{pos, natAbs, _+ℤ_, _-ℤ_, _*ℤ_};
 ghost use Rattle.std.specs.declared.option.Option.the-variants.{Some, None};
 ghost use Rattle.std.specs.shelf.Lists.{Has};
 ghost use Rattle.settlement.specs.Limits.{interval-refusal, schedule-refusal};
-ghost use Rattle.settlement.specs.Formulas.{intervals, amount as amountZ, spin-price, figures as figuresZ, sums as sumsZ};
+ghost use Rattle.settlement.specs.Standing.{intervals};
+ghost use Rattle.settlement.specs.Formulas.{amount as amountZ, spin-price, figures as figuresZ, sums as sumsZ};
 use crate::amounts::amount;
 use crate::editions::Edition;
-use crate::figures::{Interval, IntervalFigures, Region, Schedule, Sums};
+use crate::figures::Interval;
+use crate::figures::IntervalFigures;
+use crate::figures::Region;
+use crate::figures::Schedule;
+use crate::figures::Sums;
 use crate::hour::Hour;
 
 // What is due of an interval beyond the schedule, with the change in transactions set off.
@@ -29,7 +34,11 @@ fn spin(region: Region, row: &Schedule, interval: &Interval) -> i64
     ensures value { λ r. ⌜ r ≡ amountZ (now (interval .entry) .spin -ℤ now (row .entry) .spin) (spin-price region (now (interval .entry) .reserve)) (now (interval .entry) .seconds) ⌝ }
     ensures bound { λ r. ⌜ natAbs r ≤ 1206000000000 ⌝ }
 {
-    amount(interval.spin as i64 - row.spin as i64, interval.reserve.of(region), interval.seconds)
+    amount(
+        interval.spin as i64 - row.spin as i64,
+        interval.reserve.of(region),
+        interval.seconds,
+    )
 }
 
 impl Sums {
@@ -57,7 +66,13 @@ impl Sums {
 
 impl Hour {
     // What one of the hour's intervals comes to, by the hour's schedule row.
-    pub(super) fn settle<E: Edition>(&self, edition: &E, region: Region, row: &Schedule, interval: &Interval) -> IntervalFigures
+    pub(super) fn settle<E: Edition>(
+        &self,
+        edition: &E,
+        region: Region,
+        row: &Schedule,
+        interval: &Interval,
+    ) -> IntervalFigures
         requires one { ⌜ Has (intervals (now self .standing)) (now interval) ⌝ }
         requires row { ⌜ now self .standing .schedule ≡ Some (now row) ⌝ }
         ensures value { λ r. ⌜ r ≡ figuresZ (E·Edition .terms (now (edition .entry))) region (now (row .entry)) (now (self .entry) .standing) (now (interval .entry)) ⌝ }
@@ -76,7 +91,11 @@ impl Hour {
             balance,
             energy: amount(balance, interval.prices.energy, interval.seconds),
             loss: amount(balance, interval.prices.loss, interval.seconds),
-            congestion: edition.sign().shown(amount(balance, interval.prices.congestion, interval.seconds)),
+            congestion: edition.sign().shown(amount(
+                balance,
+                interval.prices.congestion,
+                interval.seconds,
+            )),
             spin: spin(region, row, interval),
         }
     }
@@ -91,10 +110,19 @@ impl Hour {
         ensures congestion { λ r. ⌜ natAbs (r .congestion) ≤ 24 * 1206000000000 ⌝ }
         ensures spin { λ r. ⌜ natAbs (r .spin) ≤ 24 * 1206000000000 ⌝ }
     {
-        let mut sums = Sums { balance: 0, energy: 0, loss: 0, congestion: 0, spin: 0 };
+        let mut sums = Sums {
+            balance: 0,
+            energy: 0,
+            loss: 0,
+            congestion: 0,
+            spin: 0,
+        };
         for record in &self.standing.records {
             if let Some(interval) = record {
-                sums.add(interval.seconds, &self.settle(edition, region, row, interval));
+                sums.add(
+                    interval.seconds,
+                    &self.settle(edition, region, row, interval),
+                );
             }
         }
         sums

@@ -3,10 +3,12 @@ ghost use mathlib.Core.Path.{_≡_};
 ghost use Prim.Native.Nat.{_≤_};
 ghost use lib.IntN.{natAbs};
 ghost use Rattle.std.specs.shelf.Lists.{Has};
-ghost use Rattle.settlement.specs.Formulas.{intervals, adjusted as adjustedZ};
-use arithmetic::{Divisor, nearest};
+ghost use Rattle.settlement.specs.Standing.{intervals};
+ghost use Rattle.settlement.specs.Formulas.{adjusted as adjustedZ};
 use crate::figures::Interval;
 use crate::hour::Hour;
+use arithmetic::Divisor;
+use arithmetic::nearest;
 
 impl Hour {
     // The kW that fall to one of the hour's intervals: its average, or its share of the reading by the averages, or the

@@ -16,5 +16,5 @@ returns c =
       shared-against-reading = (refl, refl);
       basepoint-below-zero = refl;
       basepoint-raised = refl;
-      reserve-fallen-short = refl
+      reserve-fallen-short = refl;
     }

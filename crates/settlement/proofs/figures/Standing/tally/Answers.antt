@@ -5,8 +5,8 @@ use lib.Dec.{leb}
 use Rattle.std.proofs.shelf.Tests.{lt-leb, le-leb}
 use Rattle.std.proofs.shelf.Results.{err-from-errBy}
 use Rattle.settlement.specs.declared.figures.Tally.{Tally}
-use Rattle.settlement.specs.Limits.{schedule-refusal, reading-refusal}
-use Rattle.settlement.specs.Formulas.{intervals, seconds, tally-of, records-refusal, optional}
+use Rattle.settlement.specs.Limits.{schedule-refusal, reading-refusal, records-refusal, optional}
+use Rattle.settlement.specs.Standing.{intervals, seconds, tally-of}
 use Rattle.settlement.proofs.Counting.{ruled-ok, ruled-err}
 use Rattle.settlement.proofs.figures.Standing.tally.Needs as need
 

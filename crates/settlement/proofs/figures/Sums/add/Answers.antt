@@ -46,5 +46,5 @@ returns c =
       energy = back w64 (added (s .energy) (f .energy) (c .pre .energy .0) (c .pre .energy .1)) (lit< tt) .is;
       loss = back w64 (added (s .loss) (f .loss) (c .pre .loss .0) (c .pre .loss .1)) (lit< tt) .is;
       congestion = back w64 (added (s .congestion) (f .congestion) (c .pre .congestion .0) (c .pre .congestion .1)) (lit< tt) .is;
-      spin = back w64 (added (s .spin) (f .spin) (c .pre .spin .0) (c .pre .spin .1)) (lit< tt) .is
+      spin = back w64 (added (s .spin) (f .spin) (c .pre .spin .0) (c .pre .spin .1)) (lit< tt) .is;
     }

@@ -7,8 +7,8 @@ use Rattle.std.specs.Vec.{listOf}
 use Rattle.std.proofs.shelf.Lists.{take-all}
 use Rattle.std.proofs.shelf.Results.{err-from-errBy}
 use Rattle.std.specs.declared.result.Result.the-variants.{Ok}
-use Rattle.settlement.specs.Limits.{interval-refusal, ruled}
-use Rattle.settlement.specs.Formulas.{records-refusal, tally-of}
+use Rattle.settlement.specs.Limits.{interval-refusal, ruled, records-refusal}
+use Rattle.settlement.specs.Standing.{tally-of}
 use Rattle.settlement.proofs.Counting.{Counted, counted-none, counted-empty, counted-more, counted-refused, ruled-ok, ruled-err}
 use Rattle.settlement.proofs.figures.Tally.of.Needs as need
 use Rattle.settlement.proofs.figures.Tally.of.Needs.{in-Some·in-Continue-check, in-rest}
@@ -31,10 +31,11 @@ loop-record-again c =
     let k = c .loop-record .record-index in
     let l : k < length xs = omega arith in
     elim (c .match-record .came) [
-      in-Some·in-Continue-check w ↦
-        let i = w .in-Some .interval in
-        counted-more xs k _ _ i l (w .in-Some .is) (ruled-ok (interval-refusal i) tt _ (w .in-Continue-check .ensures tt) .0) (c .loop-record .inv) (w .tally-is ∙ w .count .ensures)
-    | in-rest w ↦ counted-empty xs k _ l (w .in-rest .is) (subst (Counted xs k) (sym (w .tally-is)) (c .loop-record .inv)) ]
+      | in-Some·in-Continue-check w ↦
+          let i = w .in-Some .interval in
+          counted-more xs k _ _ i l (w .in-Some .is) (ruled-ok (interval-refusal i) tt _ (w .in-Continue-check .ensures tt) .0) (c .loop-record .inv) (w .tally-is ∙ w .count .ensures)
+      | in-rest w ↦ counted-empty xs k _ l (w .in-rest .is) (subst (Counted xs k) (sym (w .tally-is)) (c .loop-record .inv))
+    ]
 
 pub returns : need.returns
 returns c =
@@ -42,7 +43,7 @@ returns c =
     let all = take-all (c .loop-record .record-index) xs (omega arith) in
     record {
       value =
-        ap Ok (c .loop-record .inv .is ∙ ap (λ zs. tally-of (joined listOf zs)) all)
-        ∙ ap (λ o. ruled o (tally-of (joined listOf xs))) (sym (c .loop-record .inv .passed) ∙ ap (λ zs. records-refusal (joined listOf zs)) all);
-      slots = c .told-records
+          ap Ok (c .loop-record .inv .is ∙ ap (λ zs. tally-of (joined listOf zs)) all)
+          ∙ ap (λ o. ruled o (tally-of (joined listOf xs))) (sym (c .loop-record .inv .passed) ∙ ap (λ zs. records-refusal (joined listOf zs)) all);
+      slots = c .told-records;
     }

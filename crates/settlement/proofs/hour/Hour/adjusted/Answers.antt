@@ -19,7 +19,8 @@ use Rattle.arithmetic.proofs.Sizes.{abs-product}
 use Rattle.settlement.specs.declared.figures.Interval.{Interval}
 use Rattle.settlement.specs.declared.figures.Standing.{Standing}
 use Rattle.settlement.specs.declared.figures.Tally.{Tally}
-use Rattle.settlement.specs.Formulas.{volume, share, adjusted}
+use Rattle.settlement.specs.Standing.{volume}
+use Rattle.settlement.specs.Formulas.{share, adjusted}
 use Rattle.settlement.proofs.Within.{within, reading-metered, volume-positive, volume-part, sound-one}
 use Rattle.settlement.proofs.hour.Hour.adjusted.Needs as need
 
@@ -86,8 +87,8 @@ returns-in-Some-new c =
     let p = reading-metered h m w (c .in-Some .is) in
     let f : SFits w64 (c .args .self .now .counted .volume) = search needs in
     let g : d .value ≡ natAbs (volume h) =
-        c .in-Some-new .ensures tt ∙ c .unsigned-abs .ensures .value ∙ ap natAbs (toZ-ofZ w64 (c .args .self .now .counted .volume) f)
-        ∙ ap (λ (t : Tally). natAbs (t .volume)) (c .args .self .now .tallied) in
+    c .in-Some-new .ensures tt ∙ c .unsigned-abs .ensures .value ∙ ap natAbs (toZ-ofZ w64 (c .args .self .now .counted .volume) f)
+    ∙ ap (λ (t : Tally). natAbs (t .volume)) (c .args .self .now .tallied) in
     let some = some-output (volume h) (volume-positive h w) (omega (arith, g, d .«above_zero»)) in
     let n = back w64 (product (i .average) m (s .average .size) (p .size)) (lit< tt) in
     let small = share-bounded (i .average) m (d .value) (d .«above_zero») (p .size) (omega (arith, g, volume-part h i w (c .pre .one))) in
@@ -102,7 +103,7 @@ returns-in-None-new c =
     let w = within h (c .args .self .now .within) in
     let f : SFits w64 (c .args .self .now .counted .volume) = search needs in
     let g : 0 ≡ natAbs (volume h) =
-        sym (c .in-None-new .ensures tt) ∙ c .unsigned-abs .ensures .value ∙ ap natAbs (toZ-ofZ w64 (c .args .self .now .counted .volume) f)
-        ∙ ap (λ (t : Tally). natAbs (t .volume)) (c .args .self .now .tallied) in
+    sym (c .in-None-new .ensures tt) ∙ c .unsigned-abs .ensures .value ∙ ap natAbs (toZ-ofZ w64 (c .args .self .now .counted .volume) f)
+    ∙ ap (λ (t : Tally). natAbs (t .volume)) (c .args .self .now .tallied) in
     let r = figure m (reading-metered h m w (c .in-Some .is) .size) in
     record { value = r .is ∙ by-reading h i m false 0 (c .in-Some .is) (no-output (volume h) (sym g)) g; bound = sized (wider r (lit≤ tt)) }

@@ -62,20 +62,20 @@ new-balancing-requires c κs =
     record {
       energy = sized (wider (figure (s .energy) (c .pre .energy)) (lit≤ tt));
       loss = sized (wider (figure (s .loss) (c .pre .loss)) (lit≤ tt));
-      congestion = sized (wider (figure (s .congestion) (c .pre .congestion)) (lit≤ tt))
+      congestion = sized (wider (figure (s .congestion) (c .pre .congestion)) (lit≤ tt));
     }
 
 pub add-result : need.add-result
 add-result c =
     let p = c .pre in
     fits w64 (both (c .args .self .now .standing) (c .args .sums .now) (c .args .sign) (within _ (c .args .self .now .within)) (record { energy = p .energy; loss = p .loss; congestion = p .congestion; spin = p .spin })
-      (c .ahead-ahead .result) (c .new-balancing .result) (c .ahead-ahead .ensures) (c .new-balancing .ensures)) (lit< tt)
+    (c .ahead-ahead .result) (c .new-balancing .result) (c .ahead-ahead .ensures) (c .new-balancing .ensures)) (lit< tt)
 
 pub add-result-2 : need.add-result-2
 add-result-2 c =
     let p = c .pre in
     fits w64 (all (c .args .self .now .standing) (c .args .sums .now) (c .args .sign) (within _ (c .args .self .now .within)) (record { energy = p .energy; loss = p .loss; congestion = p .congestion; spin = p .spin })
-      (c .ahead-ahead .result) (c .new-balancing .result) (c .ahead-ahead .ensures) (c .new-balancing .ensures)) (lit< tt)
+    (c .ahead-ahead .result) (c .new-balancing .result) (c .ahead-ahead .ensures) (c .new-balancing .ensures)) (lit< tt)
 
 pub cast-result : need.cast-result
 cast-result c =
@@ -96,12 +96,13 @@ returns c =
     let b = balanced-is h s (c .args .sign) w few (c .ahead-ahead .result) (c .new-balancing .result) a (c .new-balancing .ensures) in
     let t = back w64 (all h s (c .args .sign) w few (c .ahead-ahead .result) (c .new-balancing .result) a (c .new-balancing .ensures)) (lit< tt) in
     let settled : c .match-settled-by .state ≡ state (settled-by h) =
-        elim (c .match-settled-by .came) [
-          in-Some v ↦ v .state-is ∙ ap state (v .in-Some .ensures tt)
-        | in-None v ↦ v .state-is ∙ ap state (v .in-None .ensures tt) ] in
+    elim (c .match-settled-by .came) [
+      | in-Some v ↦ v .state-is ∙ ap state (v .in-Some .ensures tt)
+      | in-None v ↦ v .state-is ∙ ap state (v .in-None .ensures tt)
+    ] in
     let due = back w64 (whole (s .balance) (24 * 4341600000000) (p .balance)) (lit< tt) in
     let reserve = figure (s .spin) (p .spin) in
     let counted = hour .tallied in
     let v : _ ≡ line-of (c .args .sign) h s =
-        λ k. record { state = settled k; intervals = counted k .intervals; seconds = counted k .seconds; ahead = a k; balance = due .is k; balancing = b k; spin = reserve .is k; total = t .is k } in
+    λ k. record { state = settled k; intervals = counted k .intervals; seconds = counted k .seconds; ahead = a k; balance = due .is k; balancing = b k; spin = reserve .is k; total = t .is k } in
     record { value = v; small = ap small-line? v ∙ line-small h s (c .args .sign) w few (c .ahead-ahead .result) (c .new-balancing .result) a (c .new-balancing .ensures) (p .balance) }

@@ -7,7 +7,7 @@ use Rattle.std.specs.declared.option.Option.{Option}
 use Rattle.std.specs.declared.option.Option.the-variants.{Some, None}
 use Rattle.arithmetic.proofs.Sums.{standing-has, standing-place}
 use Rattle.settlement.specs.declared.figures.Schedule.{Schedule}
-use Rattle.settlement.specs.Formulas.{seconds}
+use Rattle.settlement.specs.Standing.{seconds}
 use Rattle.settlement.proofs.hour.Hour.figures.Needs as need
 
 -- The row that settles an hour is its schedule row.
@@ -21,5 +21,5 @@ settle-requires g c κs =
     let at = sym (c .in-Continue-interval .ensures tt) in
     record {
       one = standing-has (h .records) (c .args .slot) (c .in-Continue-interval .interval) (standing-place (h .records) (c .args .slot) (c .in-Continue-interval .interval) at) at;
-      row = settling-row (eqb (seconds h) 3600) (h .schedule) (c .in-Continue-row .row) (c .in-Continue-row .ensures tt)
+      row = settling-row (eqb (seconds h) 3600) (h .schedule) (c .in-Continue-row .row) (c .in-Continue-row .ensures tt);
     }

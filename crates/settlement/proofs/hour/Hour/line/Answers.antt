@@ -15,5 +15,5 @@ returns g c =
       near = subst (NearWhereSettled e h) (sym v) (near-line e (g .E·Edition·met .lawful (c .args .edition .now)) r h);
       shared = shares-reading h;
       sign-free = subst (SignFree e r h) (sym v) (sign-free e r h);
-      small = c .close .ensures .small
+      small = c .close .ensures .small;
     }

@@ -1,12 +1,13 @@
 use mathlib.Core.Path.{_≡_, refl, sym, ap, _∙_}
 use Rattle.std.specs.Options.{isSome}
 use Rattle.std.proofs.shelf.Results.{err-from-errBy}
-use Rattle.settlement.specs.Formulas.{intervals, tally-of, hour-refusal}
+use Rattle.settlement.specs.Limits.{hour-refusal}
+use Rattle.settlement.specs.Standing.{intervals, tally-of}
 use Rattle.settlement.proofs.Counting.{ruled-ok, ruled-err}
 use Rattle.settlement.proofs.hour.Hour.new.Needs as need
 
 pub returns-in-Break-counted : need.returns-in-Break-counted
-returns-in-Break-counted c = 
+returns-in-Break-counted c =
     let h = c .args .standing in
     let bad = ruled-err (hour-refusal h) (tally-of (intervals h)) _ (c .in-Break-counted .ensures tt .value) in
     let q = err-from-errBy (c .from-residual .result) (c .from-residual .ensures .1) in

@@ -1,8 +1,11 @@
-use mathlib.Core.Path.{_≡_, sym}
-use native.Mathlib.Omega.{arith}
+use mathlib.Core.Path.{sym}
+use lib.ListN.{length}
 use Rattle.std.specs.declared.option.Option.the-variants.{None}
 use Rattle.std.proofs.shelf.Lists.{getD-past}
+use Rattle.std.proofs.shelf.Tests.{ltb-false}
 use Rattle.settlement.proofs.hour.Hour.record.Needs as need
 
-pub returns-then-slot-ge24 : need.returns-then-slot-ge24
-returns-then-slot-ge24 c = sym (getD-past (c .args .self .now .standing .records) (c .args .slot) None (omega arith))
+pub returns-in-None : need.returns-in-None
+returns-in-None c =
+    let records = c .args .self .now .standing .records in
+    sym (getD-past records (c .args .slot) None (ltb-false (c .args .slot) (length records) (sym (c .in-None .ensures tt .finds .0))))

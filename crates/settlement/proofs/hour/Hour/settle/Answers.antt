@@ -52,7 +52,7 @@ balance-balance-requires g c κs =
     record {
       basis = sized (basis-held (g .E·Edition .terms e) (g .E·Edition·met .lawful e) (i .flags) _ _ _ (i .limits) (sound-one h i w (c .pre .one) .limits) (c .adjusted-adjusted .ensures .value) (c .adjusted-adjusted .ensures .bound) (c .basis-basis .ensures));
       row = row-fair h (c .args .row .now) w (c .pre .row);
-      interval = fair-one h i w (c .pre .one)
+      interval = fair-one h i w (c .pre .one);
     }
 
 pub amount-requires : need.amount-requires
@@ -94,5 +94,9 @@ returns g c =
     let spin = back w64 (held (c .spin .ensures .value) (c .spin .ensures .bound)) (lit< tt) in
     record {
       value = λ k. record { adjusted = a .is k; basis = b .is k; balance = due .is k; energy = energy .is k; loss = loss .is k; congestion = congestion .is k; spin = spin .is k };
-      balance = sized due; energy = sized energy; loss = sized loss; congestion = sized congestion; spin = sized spin
+      balance = sized due;
+      energy = sized energy;
+      loss = sized loss;
+      congestion = sized congestion;
+      spin = sized spin;
     }

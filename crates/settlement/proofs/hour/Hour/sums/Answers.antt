@@ -4,7 +4,7 @@ use native.Mathlib.Omega.{arith}
 use lib.ListN.{length}
 use Rattle.arithmetic.proofs.Sums.{standing-has}
 use Rattle.settlement.specs.declared.figures.Sums.{Sums}
-use Rattle.settlement.specs.Formulas.{intervals}
+use Rattle.settlement.specs.Standing.{intervals}
 use Rattle.settlement.proofs.Summing.{Summed, summed-none, summed-empty, summed-more, summed-all}
 use Rattle.settlement.proofs.Within.{within, sound-one}
 use Rattle.settlement.proofs.hour.Hour.sums.Needs as need
@@ -30,7 +30,7 @@ add-requires g c κs =
       energy = (omega (arith, inv .energy .size), f .energy);
       loss = (omega (arith, inv .loss .size), f .loss);
       congestion = (omega (arith, inv .congestion .size), f .congestion);
-      spin = (omega (arith, inv .spin .size), f .spin)
+      spin = (omega (arith, inv .spin .size), f .spin);
     }
 
 pub loop-record-again : need.loop-record-again
@@ -41,17 +41,18 @@ loop-record-again g c =
     let k = c .loop-record .record-index in
     let l : k < length (h .records) = omega arith in
     elim (c .match-record .came) [
-      in-Some w ↦
-        let i = w .in-Some .interval in
-        let f = w .settle .ensures in
-        let a = w .add .ensures in
-        let one = standing-has (h .records) k i l (w .in-Some .is) in
-        let s = sound-one h i (within h (c .args .self .now .within)) one in
-        subst (Summed e (c .args .region) row h (k + 1)) (sym (w .sums-is))
-        (summed-more e (c .args .region) row h k (c .loop-record .sums) (w .add .last .self) i (w .settle .result) (c .loop-record .inv) l (w .in-Some .is) (s .most) (f .value)
+      | in-Some w ↦
+          let i = w .in-Some .interval in
+          let f = w .settle .ensures in
+          let a = w .add .ensures in
+          let one = standing-has (h .records) k i l (w .in-Some .is) in
+          let s = sound-one h i (within h (c .args .self .now .within)) one in
+          subst (Summed e (c .args .region) row h (k + 1)) (sym (w .sums-is))
+          (summed-more e (c .args .region) row h k (c .loop-record .sums) (w .add .last .self) i (w .settle .result) (c .loop-record .inv) l (w .in-Some .is) (s .most) (f .value)
           (record { balance = f .balance; energy = f .energy; loss = f .loss; congestion = f .congestion; spin = f .spin })
           (record { balance = a .balance; energy = a .energy; loss = a .loss; congestion = a .congestion; spin = a .spin }))
-    | in-rest w ↦ summed-empty e (c .args .region) row h k _ (subst (Summed e (c .args .region) row h k) (sym (w .sums-is)) (c .loop-record .inv)) l (w .in-rest .is) ]
+      | in-rest w ↦ summed-empty e (c .args .region) row h k _ (subst (Summed e (c .args .region) row h k) (sym (w .sums-is)) (c .loop-record .inv)) l (w .in-rest .is)
+    ]
 
 pub returns : need.returns
 returns g c =
@@ -62,5 +63,5 @@ returns g c =
       energy = omega (arith, inv .energy .size);
       loss = omega (arith, inv .loss .size);
       congestion = omega (arith, inv .congestion .size);
-      spin = omega (arith, inv .spin .size)
+      spin = omega (arith, inv .spin .size);
     }
