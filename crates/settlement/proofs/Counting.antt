@@ -1,7 +1,7 @@
 -- Counting the records of an hour, one place after another.
 use mathlib.Core.Path.{_≡_, refl, sym, ap, _∙_}
 use mathlib.Core.List.{List, [], _∷_, _++_}
-use Prim.Native.Nat.{ℕ, _+_, _*_, _^_, _≤_, _<_}
+use Prim.Native.Nat.{ℕ, _+_, _*_, _≤_, _<_}
 use native.Mathlib.Omega.{arith}
 use native.Mathlib.Nat.{mul-le-mul}
 use lib.Dec.{lit≤}
@@ -25,15 +25,17 @@ use Rattle.settlement.proofs.Ranges.{sound}
 use Rattle.settlement.specs.Standing.{tally-of, seconds-of, volume-of}
 
 -- What an interval adds to a tally.
-abbrev pub counted-with : Tally → Interval → Tally
-counted-with t i = record { intervals = t .intervals + 1; seconds = t .seconds + i .seconds; volume = t .volume +ℤ i .average *ℤ pos (i .seconds) }
+pub record Adds (t u : Tally) (i : Interval) : Type 0 where
+  pub intervals : u .intervals ≡ t .intervals + 1
+  pub seconds : u .seconds ≡ t .seconds + i .seconds
+  pub volume : u .volume ≡ t .volume +ℤ i .average *ℤ pos (i .seconds)
 
-tally-push : (is : List Interval) (i : Interval) → counted-with (tally-of is) i ≡ tally-of (is ++ i ∷ [])
-tally-push is i =
-    let n = length-push is i in
-    let s = sumBy-push (λ (i : Interval). i .seconds) is i in
-    let v = sumZ-push (λ (i : Interval). i .average *ℤ pos (i .seconds)) is i in
-    λ k. record { intervals = sym n k; seconds = sym s k; volume = sym v k }
+tally-push : (is : List Interval) (i : Interval) (t u : Tally) → t ≡ tally-of is → Adds t u i → u ≡ tally-of (is ++ i ∷ [])
+tally-push is i t u e a =
+    let n = a .intervals ∙ ap (λ (t : Tally). t .intervals + 1) e ∙ sym (length-push is i) in
+    let s = a .seconds ∙ ap (λ (t : Tally). t .seconds + i .seconds) e ∙ sym (sumBy-push (λ (i : Interval). i .seconds) is i) in
+    let v = a .volume ∙ ap (λ (t : Tally). t .volume +ℤ i .average *ℤ pos (i .seconds)) e ∙ sym (sumZ-push (λ (i : Interval). i .average *ℤ pos (i .seconds)) is i) in
+    λ k. record { intervals = n k; seconds = s k; volume = v k }
 
 -- What an answer tells of the ruling.
 pub ruled-ok : {A : Type 0} (o : Option Refusal) (a x : A) → Ok x ≡ ruled o a → (o ≡ None) × (x ≡ a)
@@ -63,8 +65,8 @@ pub record Counted (xs : List (Option Interval)) (k : ℕ) (t : Tally) : Type 0 
   pub is : t ≡ tally-of (joined listOf (take k xs))
   pub passed : records-refusal (joined listOf (take k xs)) ≡ None
   pub few : t .intervals ≤ k
-  pub short : t .seconds ≤ k * 2 ^ 16
-  pub small : natAbs (t .volume) ≤ k * 2 ^ 47
+  pub short : t .seconds ≤ k * 3600
+  pub small : natAbs (t .volume) ≤ k * 7200000000
 
 pub counted-none : (xs : List (Option Interval)) → Counted xs 0 (record { intervals = 0; seconds = 0; volume = pos 0 })
 unfolding records-refusal
@@ -89,7 +91,7 @@ counted-empty xs k t l e c =
     }
 
 pub counted-more : (xs : List (Option Interval)) (k : ℕ) (t t′ : Tally) (i : Interval) → k < length xs → getD xs k None ≡ Some i
-    → interval-refusal i ≡ None → Counted xs k t → t′ ≡ counted-with t i → Counted xs (k + 1) t′
+    → interval-refusal i ≡ None → Counted xs k t → Adds t t′ i → Counted xs (k + 1) t′
 unfolding records-refusal
 counted-more xs k t t′ i l e ok c q =
     let s = sound i ok in
@@ -97,11 +99,11 @@ counted-more xs k t t′ i l e ok c q =
     let more : joined listOf (take (k + 1) xs) ≡ is ++ i ∷ [] = standing-more xs k l ∙ ap (λ o. joined listOf (take k xs) ++ listOf o) e in
     let one : records-refusal (i ∷ []) ≡ None = first-none (interval-refusal i) None ok in
     record {
-      is = q ∙ ap (λ t. counted-with t i) (c .is) ∙ tally-push is i ∙ ap tally-of (sym more);
+      is = tally-push is i t t′ (c .is) q ∙ ap tally-of (sym more);
       passed = ap records-refusal more ∙ refusal-append is (i ∷ []) ∙ first-none (records-refusal is) (records-refusal (i ∷ [])) (c .passed) ∙ one;
-      few = omega (arith, ap (λ (t : Tally). t .intervals) q, c .few);
-      short = omega (arith, ap (λ (t : Tally). t .seconds) q, c .short, s .most);
-      small = omega (arith, ap (λ (t : Tally). natAbs (t .volume)) q, c .small, abs-sum (t .volume) (i .average *ℤ pos (i .seconds)), abs-product (i .average) (pos (i .seconds)), mul-le-mul (s .average .size) (s .most));
+      few = omega (arith, q .intervals, c .few);
+      short = omega (arith, q .seconds, c .short, s .most);
+      small = omega (arith, ap natAbs (q .volume), c .small, abs-sum (t .volume) (i .average *ℤ pos (i .seconds)), abs-product (i .average) (pos (i .seconds)), mul-le-mul (s .average .size) (s .most));
     }
 
 -- A place that breaks a limit after others that break none is the first that does.

@@ -33,11 +33,4 @@ impl Hour {
         let counted = standing.tally()?;
         Ok(Hour { standing, counted })
     }
-
-    // What the hour is made of.
-    pub fn standing(&self) -> &Standing
-        ensures { λ r. ⌜ now r ≡ now (self .entry) .standing ⌝ }
-    {
-        &self.standing
-    }
 }

@@ -1,11 +1,12 @@
 // Counting what stands in an hour.
 ghost use mathlib.Core.Path.{_≡_};
-ghost use Prim.Native.Nat.{_+_, _*_, _^_, _≤_};
+ghost use Prim.Native.Nat.{_+_, _*_, _≤_};
 ghost use lib.IntN.{pos, natAbs, _+ℤ_, _*ℤ_};
 ghost use lib.ListN.{length};
 ghost use Rattle.std.specs.Joined.{joined};
 ghost use Rattle.std.specs.Vec.{listOf};
-ghost use Rattle.settlement.specs.Limits.{ruled, schedule-refusal, reading-refusal, optional, records-refusal, hour-refusal};
+ghost use Rattle.std.specs.declared.option.Option.the-variants.{None};
+ghost use Rattle.settlement.specs.Limits.{ruled, interval-refusal, schedule-refusal, reading-refusal, optional, records-refusal, hour-refusal};
 ghost use Rattle.settlement.specs.Standing.{intervals, tally-of};
 use crate::figures::Interval;
 use crate::figures::Schedule;
@@ -15,12 +16,15 @@ use crate::limits::Refusal;
 use crate::limits::check_reading;
 
 impl Tally {
-    // One interval more. Twenty-four of any figures can be counted.
+    // One interval more. There is room for the 24 of an hour.
     fn count(&mut self, interval: &Interval)
+        requires fair { ⌜ interval-refusal (now interval) ≡ None ⌝ }
         requires few { ⌜ now self .intervals ≤ 23 ⌝ }
-        requires short { ⌜ now self .seconds ≤ 23 * 2 ^ 16 ⌝ }
-        requires small { ⌜ natAbs (now self .volume) ≤ 23 * 2 ^ 47 ⌝ }
-        ensures { λ _. ⌜ now (self .exit) ≡ record { intervals = now (self .entry) .intervals + 1; seconds = now (self .entry) .seconds + now (interval .entry) .seconds; volume = now (self .entry) .volume +ℤ now (interval .entry) .average *ℤ pos (now (interval .entry) .seconds) } ⌝ }
+        requires short { ⌜ now self .seconds ≤ 23 * 3600 ⌝ }
+        requires small { ⌜ natAbs (now self .volume) ≤ 23 * 7200000000 ⌝ }
+        ensures intervals { λ _. ⌜ now (self .exit) .intervals ≡ now (self .entry) .intervals + 1 ⌝ }
+        ensures seconds { λ _. ⌜ now (self .exit) .seconds ≡ now (self .entry) .seconds + now (interval .entry) .seconds ⌝ }
+        ensures volume { λ _. ⌜ now (self .exit) .volume ≡ now (self .entry) .volume +ℤ now (interval .entry) .average *ℤ pos (now (interval .entry) .seconds) ⌝ }
     {
         self.intervals += 1;
         self.seconds += interval.seconds as u32;

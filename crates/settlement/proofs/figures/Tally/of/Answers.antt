@@ -1,5 +1,5 @@
 use mathlib.Core.Path.{_≡_, sym, ap, subst, _∙_}
-use Prim.Native.Nat.{_<_}
+use Prim.Native.Nat.{_+_, _<_}
 use native.Mathlib.Omega.{arith}
 use lib.ListN.{length}
 use Rattle.std.specs.Joined.{joined}
@@ -25,6 +25,16 @@ returns-in-Break-check c =
     let at = counted-refused xs k (c .loop-record .tally) (c .in-Some .interval) _ (omega arith) (c .in-Some .is) bad (c .loop-record .inv) in
     record { value = rw (p .1, p .2, at); slots = c .told-records }
 
+pub count-requires : need.count-requires
+count-requires c κs =
+    let inv = c .loop-record .inv in
+    record {
+      fair = ruled-ok (interval-refusal (c .in-Some .interval)) tt _ (c .in-Continue-check .ensures tt) .0;
+      few = omega (arith, inv .few);
+      short = omega (arith, inv .short);
+      small = omega (arith, inv .small);
+    }
+
 pub loop-record-again : need.loop-record-again
 loop-record-again c =
     let xs = c .args .records .now in
@@ -33,7 +43,11 @@ loop-record-again c =
     elim (c .match-record .came) [
       | in-Some·in-Continue-check w ↦
           let i = w .in-Some .interval in
-          counted-more xs k _ _ i l (w .in-Some .is) (ruled-ok (interval-refusal i) tt _ (w .in-Continue-check .ensures tt) .0) (c .loop-record .inv) (w .tally-is ∙ w .count .ensures)
+          let fair = ruled-ok (interval-refusal i) tt _ (w .in-Continue-check .ensures tt) .0 in
+          let adds = w .count .ensures in
+          subst (Counted xs (k + 1)) (sym (w .tally-is))
+          (counted-more xs k (c .loop-record .tally) (w .count .last .self) i l (w .in-Some .is) fair (c .loop-record .inv)
+            (record { intervals = adds .intervals; seconds = adds .seconds; volume = adds .volume }))
       | in-rest w ↦ counted-empty xs k _ l (w .in-rest .is) (subst (Counted xs k) (sym (w .tally-is)) (c .loop-record .inv))
     ]
 
