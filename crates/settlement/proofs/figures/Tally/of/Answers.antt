@@ -47,7 +47,7 @@ loop-record-again c =
           let adds = w .count .ensures in
           subst (Counted xs (k + 1)) (sym (w .tally-is))
           (counted-more xs k (c .loop-record .tally) (w .count .last .self) i l (w .in-Some .is) fair (c .loop-record .inv)
-            (record { intervals = adds .intervals; seconds = adds .seconds; volume = adds .volume }))
+          (record { intervals = adds .intervals; seconds = adds .seconds; volume = adds .volume }))
       | in-rest w ↦ counted-empty xs k _ l (w .in-rest .is) (subst (Counted xs k) (sym (w .tally-is)) (c .loop-record .inv))
     ]
 
