@@ -4,7 +4,7 @@ use mathlib.Core.List.{List, [], _∷_, _++_, append-assoc}
 use Prim.Native.Nat.{ℕ, zero, suc, _+_, _*_, _≤_, _<_}
 use native.Mathlib.Omega.{arith}
 use lib.IntN.{ℤ, pos, negℤ, _+ℤ_, _-ℤ_, _*ℤ_, natAbs, +ℤ-assoc, *ℤ-zero}
-use lib.ListN.{length, getD, take, drop}
+use lib.ListN.{length, getD, take, drop, set}
 use lib.Signed.{_≤ℤ_}
 use borrow.Author.Differences.{ints}
 use Rattle.std.specs.Joined.{joined}
@@ -12,7 +12,7 @@ use Rattle.std.specs.Vec.{listOf}
 use Rattle.std.specs.shelf.Lists.{sumBy, All, Has}
 use Rattle.std.specs.declared.option.Option.{Option}
 use Rattle.std.specs.declared.option.Option.the-variants.{Some, None}
-use Rattle.std.proofs.shelf.Lists.{take-more, joined-more, take-append-drop}
+use Rattle.std.proofs.shelf.Lists.{take-more, joined-more, take-append-drop, set-split}
 use Rattle.std.proofs.shelf.Elements.{has-append-left, has-push}
 use Rattle.std.proofs.shelf.Sums.{sumBy-cons}
 use Rattle.arithmetic.specs.Sums.{sumZ}
@@ -94,3 +94,25 @@ sumZ-naturals f (x ∷ xs) = ap (λ z. pos (f x) +ℤ z) (sumZ-naturals f xs) �
 pub sumBy-scale : {A : Type 0} (k : ℕ) (f : A → ℕ) (xs : List A) → sumBy (λ x. k * f x) xs ≡ k * sumBy f xs
 sumBy-scale k f [] = omega arith
 sumBy-scale k f (x ∷ xs) = omega (arith, sumBy-cons (λ x. k * f x) x xs, sumBy-cons f x xs, sumBy-scale k f xs, ap (λ (t : ℕ). k * t) (sumBy-cons f x xs))
+
+-- Sums one after another, and how large a sum can be.
+pub sumZ-append : {A : Type 0} (f : A → ℤ) (xs ys : List A) → sumZ f (xs ++ ys) ≡ sumZ f xs +ℤ sumZ f ys
+unfolding sumZ
+sumZ-append f [] ys = omega (arith, ints)
+sumZ-append f (x ∷ xs) ys = ap (λ z. f x +ℤ z) (sumZ-append f xs ys) ∙ sym (+ℤ-assoc (f x) (sumZ f xs) (sumZ f ys))
+
+pub sumZ-size : {A : Type 0} (f : A → ℤ) (n : ℕ) (xs : List A) → All (λ x. natAbs (f x) ≤ n) xs → natAbs (sumZ f xs) ≤ length xs * n
+unfolding sumZ
+sumZ-size f n [] h = omega arith
+sumZ-size f n (x ∷ xs) h = omega (arith, abs-sum (f x) (sumZ f xs), h .0, sumZ-size f n xs (h .1))
+
+-- No more stands than there are places.
+pub standing-length : {A : Type 0} (xs : List (Option A)) → length (joined listOf xs) ≤ length xs
+standing-length [] = omega arith
+standing-length (None ∷ xs) = let l = standing-length xs in omega arith
+standing-length (Some x ∷ xs) = let l = standing-length xs in omega arith
+
+-- What stands where one place was rewritten, around that place.
+pub standing-set : {A : Type 0} (xs : List (Option A)) (k : ℕ) (o : Option A) → k < length xs
+    → joined listOf (set xs k o) ≡ joined listOf (take k xs) ++ (listOf o ++ joined listOf (drop (suc k) xs))
+standing-set xs k o l = ap (joined listOf) (set-split xs k o l) ∙ standing-append (take k xs) (o ∷ drop (suc k) xs)

@@ -47,7 +47,7 @@ ruled-err None a r e = let z : _≡_ {A = ℕ} 0 1 = cc in absurd (omega arith)
 ruled-err (Some q) a r e = cc
 
 -- The first refusal of two lists.
-first-none : (a b : Option Refusal) → a ≡ None → first a b ≡ b
+pub first-none : (a b : Option Refusal) → a ≡ None → first a b ≡ b
 first-none a b e = ap (λ r. first r b) e
 
 first-assoc : (a b c : Option Refusal) → first a (first b c) ≡ first (first a b) c

@@ -3,7 +3,9 @@ pub mod Ranges
 pub mod Counting
 pub mod Within
 pub mod Terms
+pub mod Volumes
 pub mod Signs
+pub mod Changing
 pub mod Summing
 pub mod Sizing
 pub mod Nearness

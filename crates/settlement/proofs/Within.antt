@@ -29,7 +29,7 @@ neither : (a b : Option Refusal) → first a b ≡ None → (a ≡ None) × (b �
 neither None b e = (refl, e)
 neither (Some r) b e = let z : _≡_ {A = ℕ} 0 1 = cc in absurd (omega arith)
 
-abbrev Fair : Interval → Type 0
+abbrev pub Fair : Interval → Type 0
 Fair i = interval-refusal i ≡ None
 
 all-fair : (is : List Interval) → records-refusal is ≡ None → All Fair is

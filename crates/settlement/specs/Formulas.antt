@@ -2,13 +2,14 @@
 use mathlib.Core.Bool.{cond}
 use mathlib.Core.List.{List}
 use Prim.Native.Nat.{ℕ}
-use lib.Dec.{eqb}
+use lib.Dec.{eqb, ltb}
 use lib.IntN.{ℤ, pos, negℤ, natAbs, _+ℤ_, _-ℤ_, _*ℤ_}
 use lib.ListN.{length, getD}
 use lib.Signed.{ltZ}
-use Rattle.std.specs.Options.{mapped}
 use Rattle.std.specs.declared.option.Option.{Option}
 use Rattle.std.specs.declared.option.Option.the-variants.{Some, None}
+use Rattle.std.specs.declared.result.Result.{Result}
+use Rattle.std.specs.declared.result.Result.the-variants.{Ok, Err}
 use Rattle.arithmetic.specs.Rounding.{nearest}
 use Rattle.arithmetic.specs.Sums.{sumZ}
 use Rattle.settlement.specs.declared.figures.Interval.{Interval}
@@ -25,6 +26,8 @@ use Rattle.settlement.specs.declared.figures.Region.{Region}
 use Rattle.settlement.specs.declared.figures.Region.the-variants.{East, West}
 use Rattle.settlement.specs.declared.editions.Sign.{Sign}
 use Rattle.settlement.specs.declared.editions.Sign.the-variants.{Plus, Minus}
+use Rattle.settlement.specs.declared.limits.Refusal.{Refusal}
+use Rattle.settlement.specs.declared.limits.Refusal.the-variants.{Slot, Nothing, Unsettled}
 use Rattle.settlement.specs.Editions.{Terms}
 use Rattle.settlement.specs.Standing.{intervals, seconds, volume}
 
@@ -139,10 +142,11 @@ abbrev pub hour-line : Terms → Region → Standing → HourLine
 hour-line e r h = line-of (e .sign) h (settled-sums e r h (settled-by h))
 
 -- The figures of a record that may stand, in an hour that a row may settle.
-abbrev pub figures-in : Terms → Region → Standing → Option Schedule → Option Interval → Option IntervalFigures
-figures-in e r h None i = None
-figures-in e r h (Some g) i = mapped (figures e r g h) i
+abbrev pub figures-of : Terms → Region → Standing → Option Schedule → Option Interval → Result IntervalFigures Refusal
+figures-of e r h row None = Err Nothing
+figures-of e r h None (Some i) = Err Unsettled
+figures-of e r h (Some g) (Some i) = Ok (figures e r g h i)
 
--- The figures of the interval in a slot: none where nothing stands there or the hour is not settled.
-abbrev pub figures-at : Terms → Region → Standing → ℕ → Option IntervalFigures
-figures-at e r h slot = figures-in e r h (settled-by h) (getD (h .records) slot None)
+-- The figures of the interval in a slot: refused for a slot above 23, where nothing stands, and where the hour is not settled.
+abbrev pub figures-at : Terms → Region → Standing → ℕ → Result IntervalFigures Refusal
+figures-at e r h slot = cond (ltb slot 24) (figures-of e r h (settled-by h) (getD (h .records) slot None)) (Err Slot)

@@ -1,6 +1,7 @@
 pub mod Standing
 pub mod Limits
 pub mod Editions
+pub mod Changes
 pub mod Formulas
 pub mod Nearness
 pub mod Bounds

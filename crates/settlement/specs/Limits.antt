@@ -17,16 +17,19 @@ use Rattle.settlement.specs.declared.figures.Limits.{Limits}
 use Rattle.settlement.specs.declared.figures.Standing.{Standing}
 use Rattle.settlement.specs.Standing.{intervals, seconds}
 use Rattle.settlement.specs.declared.limits.Refusal.{Refusal}
-use Rattle.settlement.specs.declared.limits.Refusal.the-variants.{Seconds, Flags, Power, Price, Overfull, Reading}
+use Rattle.settlement.specs.declared.limits.Refusal.the-variants.{Slot, Seconds, Flags, Power, Price, Overfull, Nothing, Reading, Unsettled}
 
 -- The number of each refusal.
 abbrev pub number : Refusal → ℕ
+number Slot = 6
 number Seconds = 7
 number Flags = 8
 number Power = 9
 number Price = 10
 number Overfull = 11
+number Nothing = 13
 number Reading = 14
+number Unsettled = 15
 
 -- x lies from low to high.
 abbrev pub between : ℤ → ℤ → ℤ → Bool
@@ -100,6 +103,11 @@ reading-refusal m = unless (power? m) Reading None
 abbrev pub ruled : {A : Type 0} → Option Refusal → A → Result A Refusal
 ruled None answer = Ok answer
 ruled (Some refusal) answer = Err refusal
+
+-- What is left: the new where nothing refuses it, else the old.
+abbrev pub changed : {A : Type 0} → Option Refusal → A → A → A
+changed None new old = new
+changed (Some refusal) new old = old
 
 -- The first refusal of two.
 abbrev pub first : Option Refusal → Option Refusal → Option Refusal

@@ -1,3 +1,4 @@
+mod changes;
 mod line;
 mod settling;
 mod sharing;

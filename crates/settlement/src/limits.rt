@@ -20,15 +20,24 @@ const MOST_CENTS: i32 = 1_000_000;
 
 const ALL_FLAGS: u8 = 127;
 
-// The first limit that figures break.
+// Why figures, a change to an hour or a question about it are refused: the first reason that applies.
 #[derive(Clone, Copy)]
 pub enum Refusal {
+    // The slot is above 23.
+    Slot,
+    // A figure lies outside its limits.
     Seconds,
     Flags,
     Power,
     Price,
+    // The seconds of the hour exceed 3,600.
     Overfull,
+    // Nothing stands there.
+    Nothing,
+    // A reading lies outside its limits.
     Reading,
+    // The hour is not settled.
+    Unsettled,
 }
 
 impl Refusal {
@@ -37,12 +46,15 @@ impl Refusal {
         ensures { λ r. ⌜ r ≡ numberOf self ⌝ }
     {
         match self {
+            Refusal::Slot => 6,
             Refusal::Seconds => 7,
             Refusal::Flags => 8,
             Refusal::Power => 9,
             Refusal::Price => 10,
             Refusal::Overfull => 11,
+            Refusal::Nothing => 13,
             Refusal::Reading => 14,
+            Refusal::Unsettled => 15,
         }
     }
 }

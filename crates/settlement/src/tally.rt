@@ -1,7 +1,7 @@
 // Counting what stands in an hour.
 ghost use mathlib.Core.Path.{_≡_};
 ghost use Prim.Native.Nat.{_+_, _*_, _≤_};
-ghost use lib.IntN.{pos, natAbs, _+ℤ_, _*ℤ_};
+ghost use lib.IntN.{pos, natAbs, _+ℤ_, _-ℤ_, _*ℤ_};
 ghost use lib.ListN.{length};
 ghost use Rattle.std.specs.Joined.{joined};
 ghost use Rattle.std.specs.Vec.{listOf};
@@ -16,12 +16,12 @@ use crate::limits::Refusal;
 use crate::limits::check_reading;
 
 impl Tally {
-    // One interval more. There is room for the 24 of an hour.
-    fn count(&mut self, interval: &Interval)
+    // One interval more. There is room for those of an hour.
+    pub(crate) fn count(&mut self, interval: &Interval)
         requires fair { ⌜ interval-refusal (now interval) ≡ None ⌝ }
-        requires few { ⌜ now self .intervals ≤ 23 ⌝ }
-        requires short { ⌜ now self .seconds ≤ 23 * 3600 ⌝ }
-        requires small { ⌜ natAbs (now self .volume) ≤ 23 * 7200000000 ⌝ }
+        requires few { ⌜ now self .intervals ≤ 24 ⌝ }
+        requires short { ⌜ now self .seconds ≤ 24 * 3600 ⌝ }
+        requires small { ⌜ natAbs (now self .volume) ≤ 24 * 7200000000 ⌝ }
         ensures intervals { λ _. ⌜ now (self .exit) .intervals ≡ now (self .entry) .intervals + 1 ⌝ }
         ensures seconds { λ _. ⌜ now (self .exit) .seconds ≡ now (self .entry) .seconds + now (interval .entry) .seconds ⌝ }
         ensures volume { λ _. ⌜ now (self .exit) .volume ≡ now (self .entry) .volume +ℤ now (interval .entry) .average *ℤ pos (now (interval .entry) .seconds) ⌝ }
@@ -29,6 +29,21 @@ impl Tally {
         self.intervals += 1;
         self.seconds += interval.seconds as u32;
         self.volume += interval.average as i64 * interval.seconds as i64;
+    }
+
+    // One interval fewer, of those that were counted.
+    pub(crate) fn discount(&mut self, interval: &Interval)
+        requires fair { ⌜ interval-refusal (now interval) ≡ None ⌝ }
+        requires few { ⌜ 1 ≤ now self .intervals ⌝ }
+        requires short { ⌜ now interval .seconds ≤ now self .seconds ⌝ }
+        requires small { ⌜ natAbs (now self .volume) ≤ 24 * 7200000000 ⌝ }
+        ensures intervals { λ _. ⌜ now (self .exit) .intervals + 1 ≡ now (self .entry) .intervals ⌝ }
+        ensures seconds { λ _. ⌜ now (self .exit) .seconds + now (interval .entry) .seconds ≡ now (self .entry) .seconds ⌝ }
+        ensures volume { λ _. ⌜ now (self .exit) .volume ≡ now (self .entry) .volume -ℤ now (interval .entry) .average *ℤ pos (now (interval .entry) .seconds) ⌝ }
+    {
+        self.intervals -= 1;
+        self.seconds -= interval.seconds as u32;
+        self.volume -= interval.average as i64 * interval.seconds as i64;
     }
 
     // What stands in an hour's slots, or the first limit that a record breaks.

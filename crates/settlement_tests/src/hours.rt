@@ -4,6 +4,7 @@ use settlement::Limits;
 use settlement::Newer;
 use settlement::NewerEdition;
 use settlement::Prices;
+use settlement::Refusal;
 use settlement::Region;
 use settlement::Schedule;
 use settlement::SpinPrices;
@@ -30,6 +31,13 @@ fn half_hour(average: i32) -> Interval {
             congestion: 0,
         },
         reserve: SpinPrices { east: 0, west: 0 },
+    }
+}
+
+fn lasting(seconds: u16) -> Interval {
+    Interval {
+        seconds,
+        ..half_hour(10)
     }
 }
 
@@ -61,17 +69,29 @@ fn two_halves(
     }
 }
 
+// The number of a refusal, and 0 for none.
+fn number<T: Drop>(answer: Result<T, Refusal>) -> u8 {
+    match answer {
+        Ok(_) => 0,
+        Err(refusal) => refusal.number(),
+    }
+}
+
 #[test]
 fn a_reading_is_shared_by_the_averages() -> Result<(), Fail> {
     let Ok(hour) = Hour::new(two_halves(half_hour(10), half_hour(20), Some(ROW), Some(16))) else {
         return Err(Fail::new("refused"));
     };
-    let first = hour.figures(&Newer, Region::East, 3).ok_or("no interval")?;
-    let second = hour.figures(&Newer, Region::East, 17).ok_or("no interval")?;
+    let (Ok(first), Ok(second)) = (
+        hour.figures(&Newer, Region::East, 3),
+        hour.figures(&Newer, Region::East, 17),
+    ) else {
+        return Err(Fail::new("no interval"));
+    };
     check_eq(first.adjusted, 11)?;
     check_eq(second.adjusted, 21)?;
-    check(hour.figures(&Newer, Region::East, 4).is_none())?;
-    check(hour.figures(&Newer, Region::East, 24).is_none())
+    check_eq(number(hour.figures(&Newer, Region::East, 4)), 13)?;
+    check_eq(number(hour.figures(&Newer, Region::East, 24)), 6)
 }
 
 #[test]
@@ -79,7 +99,9 @@ fn without_output_the_reading_falls_to_each_interval() -> Result<(), Fail> {
     let Ok(hour) = Hour::new(two_halves(half_hour(0), half_hour(0), Some(ROW), Some(700))) else {
         return Err(Fail::new("refused"));
     };
-    let second = hour.figures(&Newer, Region::East, 17).ok_or("no interval")?;
+    let Ok(second) = hour.figures(&Newer, Region::East, 17) else {
+        return Err(Fail::new("no interval"));
+    };
     check_eq(second.adjusted, 700)?;
     // 300 kW short of the schedule at $20 a MWh over the hour
     check_eq(hour.line(&Newer, Region::East).balancing.energy, -600)
@@ -87,10 +109,7 @@ fn without_output_the_reading_falls_to_each_interval() -> Result<(), Fail> {
 
 #[test]
 fn an_unsettled_hour_shows_what_was_sold_and_nothing_else() -> Result<(), Fail> {
-    let short = Interval {
-        seconds: 1_799,
-        ..half_hour(5_000)
-    };
+    let short = lasting(1_799);
     for standing in [
         two_halves(half_hour(5_000), short, Some(ROW), None),
         two_halves(half_hour(5_000), half_hour(5_000), None, None),
@@ -103,19 +122,36 @@ fn an_unsettled_hour_shows_what_was_sold_and_nothing_else() -> Result<(), Fail> 
         check_eq(line.balance, 0)?;
         check_eq(line.balancing.total, 0)?;
         check_eq(line.total, line.ahead.total)?;
-        check(hour.figures(&Newer, Region::East, 3).is_none())?;
+        check_eq(number(hour.figures(&Newer, Region::East, 3)), 15)?;
     }
     Ok(())
 }
 
 #[test]
 fn an_hour_holds_no_more_than_its_seconds() -> Result<(), Fail> {
-    let long = Interval {
-        seconds: 1_801,
-        ..half_hour(5_000)
-    };
-    match Hour::new(two_halves(half_hour(5_000), long, Some(ROW), None)) {
+    match Hour::new(two_halves(half_hour(5_000), lasting(1_801), Some(ROW), None)) {
         Ok(_) => Err(Fail::new("an hour of 3,601 seconds")),
         Err(refusal) => check_eq(refusal.number(), 11),
     }
+}
+
+#[test]
+fn a_changed_hour_is_an_hour_of_the_changed_figures() -> Result<(), Fail> {
+    let Ok(mut hour) = Hour::new(two_halves(half_hour(10), half_hour(20), Some(ROW), Some(16)))
+    else {
+        return Err(Fail::new("refused"));
+    };
+    // 3,300 seconds elsewhere leave room for 300 and not for 301
+    check_eq(number(hour.post(3, &lasting(1_500))), 0)?;
+    check_eq(number(hour.post(4, &lasting(301))), 11)?;
+    check_eq(number(hour.post(4, &lasting(300))), 0)?;
+    check(matches!(hour.line(&Newer, Region::East).state, State::Settled))?;
+    check_eq(number(hour.post(24, &half_hour(10))), 6)?;
+    check_eq(number(hour.withdraw(5)), 13)?;
+    check_eq(number(hour.withdraw(17)), 0)?;
+    check_eq(hour.line(&Newer, Region::East).seconds, 1_800)?;
+    check_eq(number(hour.unread()), 0)?;
+    check_eq(number(hour.unread()), 13)?;
+    check_eq(number(hour.read(-1)), 14)?;
+    check_eq(number(hour.schedule(&Schedule { spin: -1, ..ROW })), 9)
 }

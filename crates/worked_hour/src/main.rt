@@ -79,7 +79,7 @@ fn print_edition<E: Edition>(
         "  slot   adjusted      basis    balance     energy       loss congestion       spin"
     )?;
     for slot in 0..24u8 {
-        if let Some(figures) = hour.figures(edition, region, slot) {
+        if let Ok(figures) = hour.figures(edition, region, slot) {
             print_figures(rt, slot, &figures)?;
         }
     }

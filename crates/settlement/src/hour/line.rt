@@ -19,6 +19,7 @@ use crate::figures::Schedule;
 use crate::figures::State;
 use crate::figures::Sums;
 use crate::hour::Hour;
+use crate::limits::Refusal;
 
 impl Hour {
     // The row by which the hour is settled, if it is: its schedule row, where its intervals fill the hour.
@@ -117,17 +118,24 @@ impl Hour {
         }
     }
 
-    // The figures of the interval in a slot: none where nothing stands there or the hour is not settled.
+    // The figures of the interval in a slot.
     pub fn figures<E: Edition>(
         &self,
         edition: &E,
         region: Region,
         slot: u8,
-    ) -> Option<IntervalFigures>
+    ) -> Result<IntervalFigures, Refusal>
         ensures { λ r. ⌜ r ≡ figures-at (E·Edition .terms (now (edition .entry))) region (now (self .entry) .standing) slot ⌝ }
     {
-        let row = self.settled_by()?;
-        let interval = self.record(slot)?;
-        Some(self.settle(edition, region, &row, &interval))
+        if slot >= 24 {
+            return Err(Refusal::Slot);
+        }
+        let Some(interval) = self.record(slot) else {
+            return Err(Refusal::Nothing);
+        };
+        let Some(row) = self.settled_by() else {
+            return Err(Refusal::Unsettled);
+        };
+        Ok(self.settle(edition, region, &row, &interval))
     }
 }

@@ -18,8 +18,8 @@ settling-row false o g e = let z : _≡_ {A = ℕ} 0 1 = cc in absurd (omega ari
 pub settle-requires : need.settle-requires
 settle-requires g c κs =
     let h = c .args .self .now .standing in
-    let at = sym (c .in-Continue-interval .ensures tt) in
+    let at = sym (c .in-Some .ensures tt) in
     record {
-      one = standing-has (h .records) (c .args .slot) (c .in-Continue-interval .interval) (standing-place (h .records) (c .args .slot) (c .in-Continue-interval .interval) at) at;
-      row = settling-row (eqb (seconds h) 3600) (h .schedule) (c .in-Continue-row .row) (c .in-Continue-row .ensures tt);
+      one = standing-has (h .records) (c .args .slot) (c .in-Some .interval) (standing-place (h .records) (c .args .slot) (c .in-Some .interval) at) at;
+      row = settling-row (eqb (seconds h) 3600) (h .schedule) (c .in-Some-settled-by .row) (c .in-Some-settled-by .ensures tt);
     }
