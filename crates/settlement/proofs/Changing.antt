@@ -28,10 +28,12 @@ use Rattle.settlement.specs.declared.figures.Schedule.{Schedule}
 use Rattle.settlement.specs.declared.figures.Standing.{Standing}
 use Rattle.settlement.specs.declared.figures.Tally.{Tally}
 use Rattle.settlement.specs.declared.limits.Refusal.{Refusal}
-use Rattle.settlement.specs.Limits.{first, optional, interval-refusal, schedule-refusal, records-refusal, hour-refusal}
+use Rattle.settlement.specs.Rulings.{first, optional}
+use Rattle.settlement.specs.Limits.{interval-refusal, schedule-refusal, records-refusal, hour-refusal}
 use Rattle.settlement.specs.Changes.{with-record, with-row, others}
 use Rattle.settlement.specs.Standing.{intervals, seconds, tally-of}
-use Rattle.settlement.proofs.Counting.{Adds, first-none}
+use Rattle.settlement.proofs.Rulings.{first-none}
+use Rattle.settlement.proofs.Counting.{Adds}
 use Rattle.settlement.proofs.Ranges.{Sound, sound}
 use Rattle.settlement.proofs.Within.{Fair, Within, within}
 

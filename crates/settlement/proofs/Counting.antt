@@ -20,8 +20,10 @@ use Rattle.arithmetic.proofs.Sums.{sumZ-push, sumZ-none, standing-more, standin
 use Rattle.settlement.specs.declared.figures.Interval.{Interval}
 use Rattle.settlement.specs.declared.figures.Tally.{Tally}
 use Rattle.settlement.specs.declared.limits.Refusal.{Refusal}
-use Rattle.settlement.specs.Limits.{interval-refusal, ruled, first, records-refusal}
+use Rattle.settlement.specs.Rulings.{ruled, first}
+use Rattle.settlement.specs.Limits.{interval-refusal, records-refusal}
 use Rattle.settlement.proofs.Ranges.{sound}
+use Rattle.settlement.proofs.Rulings.{first-none, first-assoc}
 use Rattle.settlement.specs.Standing.{tally-of, seconds-of, volume-of}
 
 -- What an interval adds to a tally.
@@ -36,23 +38,6 @@ tally-push is i t u e a =
     let s = a .seconds ∙ ap (λ (t : Tally). t .seconds + i .seconds) e ∙ sym (sumBy-push (λ (i : Interval). i .seconds) is i) in
     let v = a .volume ∙ ap (λ (t : Tally). t .volume +ℤ i .average *ℤ pos (i .seconds)) e ∙ sym (sumZ-push (λ (i : Interval). i .average *ℤ pos (i .seconds)) is i) in
     λ k. record { intervals = n k; seconds = s k; volume = v k }
-
--- What an answer tells of the ruling.
-pub ruled-ok : {A : Type 0} (o : Option Refusal) (a x : A) → Ok x ≡ ruled o a → (o ≡ None) × (x ≡ a)
-ruled-ok None a x e = (refl, cc)
-ruled-ok (Some r) a x e = let z : _≡_ {A = ℕ} 0 1 = cc in absurd (omega arith)
-
-pub ruled-err : {A : Type 0} (o : Option Refusal) (a : A) (r : Refusal) → Err r ≡ ruled o a → o ≡ Some r
-ruled-err None a r e = let z : _≡_ {A = ℕ} 0 1 = cc in absurd (omega arith)
-ruled-err (Some q) a r e = cc
-
--- The first refusal of two lists.
-pub first-none : (a b : Option Refusal) → a ≡ None → first a b ≡ b
-first-none a b e = ap (λ r. first r b) e
-
-first-assoc : (a b c : Option Refusal) → first a (first b c) ≡ first (first a b) c
-first-assoc None b c = refl
-first-assoc (Some r) b c = refl
 
 pub refusal-append : (is js : List Interval) → records-refusal (is ++ js) ≡ first (records-refusal is) (records-refusal js)
 unfolding records-refusal

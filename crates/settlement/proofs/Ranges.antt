@@ -15,12 +15,9 @@ use Rattle.settlement.specs.declared.figures.Limits.{Limits}
 use Rattle.settlement.specs.declared.figures.Prices.{Prices}
 use Rattle.settlement.specs.declared.figures.Schedule.{Schedule}
 use Rattle.settlement.specs.declared.limits.Refusal.{Refusal}
-use Rattle.settlement.specs.Limits.{unless, power?, basepoint?, price?, prices?, limits?, length?, flags?, powers?, real-time-prices?, sold?, interval-refusal, schedule-refusal, reading-refusal}
-
--- A test that refuses nothing was passed.
-pub passed : (t : Bool) (r : Refusal) (rest : Option Refusal) → unless t r rest ≡ None → (t ≡ true) × (rest ≡ None)
-passed true r rest e = (refl, e)
-passed false r rest e = let z : _≡_ {A = ℕ} 0 1 = cc in absurd (omega arith)
+use Rattle.settlement.proofs.Rulings.{passed}
+use Rattle.settlement.specs.Rulings.{unless}
+use Rattle.settlement.specs.Limits.{power?, basepoint?, price?, prices?, limits?, length?, flags?, powers?, real-time-prices?, sold?, interval-refusal, schedule-refusal, reading-refusal}
 
 pub record Power (x : ℤ) : Type 0 where
   pub low : pos 0 ≤ℤ x

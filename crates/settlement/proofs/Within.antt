@@ -21,13 +21,11 @@ use Rattle.settlement.specs.declared.figures.Schedule.{Schedule}
 use Rattle.settlement.specs.declared.figures.Standing.{Standing}
 use Rattle.settlement.specs.declared.limits.Refusal.{Refusal}
 use Rattle.settlement.specs.declared.limits.Refusal.the-variants.{Overfull}
-use Rattle.settlement.specs.Limits.{unless, interval-refusal, schedule-refusal, reading-refusal, first, optional, records-refusal, hour-refusal}
+use Rattle.settlement.specs.Rulings.{unless, first, optional}
+use Rattle.settlement.specs.Limits.{interval-refusal, schedule-refusal, reading-refusal, records-refusal, hour-refusal}
 use Rattle.settlement.specs.Standing.{intervals, seconds, volume}
-use Rattle.settlement.proofs.Ranges.{passed, Power, Sound, sound, metered}
-
-neither : (a b : Option Refusal) → first a b ≡ None → (a ≡ None) × (b ≡ None)
-neither None b e = (refl, e)
-neither (Some r) b e = let z : _≡_ {A = ℕ} 0 1 = cc in absurd (omega arith)
+use Rattle.settlement.proofs.Rulings.{passed, neither, none}
+use Rattle.settlement.proofs.Ranges.{Power, Sound, sound, metered}
 
 abbrev pub Fair : Interval → Type 0
 Fair i = interval-refusal i ≡ None
@@ -42,10 +40,6 @@ pub record Within (h : Standing) : Type 0 where
   pub short : seconds h ≤ 3600
   pub schedule : optional schedule-refusal (h .schedule) ≡ None
   pub reading : optional reading-refusal (h .reading) ≡ None
-
-none : (o : Option Refusal) → isSome o ≡ false → o ≡ None
-none None e = refl
-none (Some r) e = let z : _≡_ {A = ℕ} 0 1 = cc in absurd (omega arith)
 
 pub within : (h : Standing) → isSome (hour-refusal h) ≡ false → Within h
 within h e =

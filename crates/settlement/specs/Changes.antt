@@ -12,7 +12,8 @@ use Rattle.settlement.specs.declared.figures.Schedule.{Schedule}
 use Rattle.settlement.specs.declared.figures.Standing.{Standing}
 use Rattle.settlement.specs.declared.limits.Refusal.{Refusal}
 use Rattle.settlement.specs.declared.limits.Refusal.the-variants.{Slot, Overfull, Nothing}
-use Rattle.settlement.specs.Limits.{unless, first, interval-refusal}
+use Rattle.settlement.specs.Rulings.{unless, first}
+use Rattle.settlement.specs.Limits.{interval-refusal}
 use Rattle.settlement.specs.Standing.{seconds}
 
 -- The hour with another record, or none, in a slot; with another schedule row; with another reading, or none.

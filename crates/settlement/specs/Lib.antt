@@ -1,3 +1,4 @@
+pub mod Rulings
 pub mod Standing
 pub mod Limits
 pub mod Editions

@@ -8,13 +8,12 @@ use lib.IntN.{ℤ, pos, negsuc}
 use lib.Signed.{leZ}
 use Rattle.std.specs.declared.option.Option.{Option}
 use Rattle.std.specs.declared.option.Option.the-variants.{Some, None}
-use Rattle.std.specs.declared.result.Result.{Result}
-use Rattle.std.specs.declared.result.Result.the-variants.{Ok, Err}
 use Rattle.settlement.specs.declared.figures.Interval.{Interval}
 use Rattle.settlement.specs.declared.figures.Schedule.{Schedule}
 use Rattle.settlement.specs.declared.figures.Prices.{Prices}
 use Rattle.settlement.specs.declared.figures.Limits.{Limits}
 use Rattle.settlement.specs.declared.figures.Standing.{Standing}
+use Rattle.settlement.specs.Rulings.{unless, first, optional}
 use Rattle.settlement.specs.Standing.{intervals, seconds}
 use Rattle.settlement.specs.declared.limits.Refusal.{Refusal}
 use Rattle.settlement.specs.declared.limits.Refusal.the-variants.{Slot, Seconds, Flags, Power, Price, Overfull, Nothing, Reading, Unsettled}
@@ -59,10 +58,6 @@ set? flags flag = not (eqb (bitAnd flags flag) 0)
 abbrev pub flags? : ℕ → Bool
 flags? f = leb f 127 && (not (set? f 16) || set? f 8)
 
--- A test that fails refuses; else what comes after it decides.
-abbrev pub unless : Bool → Refusal → Option Refusal → Option Refusal
-unless ok refusal rest = cond ok rest (Some refusal)
-
 -- The two basepoints and the energy limit.
 abbrev pub limits? : Limits → Bool
 limits? l = basepoint? (l .rtd) && basepoint? (l .agc) && basepoint? (l .energy)
@@ -98,26 +93,6 @@ schedule-refusal g = unless (sold? g) Power (unless (prices? (g .prices)) Price 
 -- The limit that a reading breaks.
 abbrev pub reading-refusal : ℤ → Option Refusal
 reading-refusal m = unless (power? m) Reading None
-
--- An answer, unless something refuses it.
-abbrev pub ruled : {A : Type 0} → Option Refusal → A → Result A Refusal
-ruled None answer = Ok answer
-ruled (Some refusal) answer = Err refusal
-
--- What is left: the new where nothing refuses it, else the old.
-abbrev pub changed : {A : Type 0} → Option Refusal → A → A → A
-changed None new old = new
-changed (Some refusal) new old = old
-
--- The first refusal of two.
-abbrev pub first : Option Refusal → Option Refusal → Option Refusal
-first None next = next
-first (Some refusal) next = Some refusal
-
--- What refuses a figure that may be absent.
-abbrev pub optional : {A : Type 0} → (A → Option Refusal) → Option A → Option Refusal
-optional f None = None
-optional f (Some x) = f x
 
 -- The first limit that one of some records breaks.
 unfoldable pub records-refusal : List Interval → Option Refusal

@@ -1,6 +1,7 @@
 // The limits of the figures, and which of them is broken first.
 ghost use mathlib.Core.Path.{_≡_};
-ghost use Rattle.settlement.specs.Limits.{power?, basepoint?, price?, prices?, flags?, limits?, length?, sold?, powers?, real-time-prices?, ruled, interval-refusal, schedule-refusal, reading-refusal, number as numberOf};
+ghost use Rattle.settlement.specs.Rulings.{ruled};
+ghost use Rattle.settlement.specs.Limits.{power?, basepoint?, price?, prices?, flags?, limits?, length?, sold?, powers?, real-time-prices?, interval-refusal, schedule-refusal, reading-refusal, number as numberOf};
 use crate::figures::Interval;
 use crate::figures::Limits;
 use crate::figures::Prices;

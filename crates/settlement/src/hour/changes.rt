@@ -2,7 +2,8 @@
 ghost use mathlib.Core.Path.{_≡_};
 ghost use Prim.Native.Nat.{_<_};
 ghost use Rattle.std.specs.declared.option.Option.the-variants.{Some, None};
-ghost use Rattle.settlement.specs.Limits.{ruled, changed, schedule-refusal, reading-refusal};
+ghost use Rattle.settlement.specs.Rulings.{ruled, changed};
+ghost use Rattle.settlement.specs.Limits.{schedule-refusal, reading-refusal};
 ghost use Rattle.settlement.specs.Standing.{intervals, tally-of};
 ghost use Rattle.settlement.specs.Changes.{with-record, with-row, with-reading, post-refusal, withdraw-refusal, unread-refusal};
 use crate::figures::Interval;

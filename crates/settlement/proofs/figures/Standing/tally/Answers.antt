@@ -5,9 +5,10 @@ use lib.Dec.{leb}
 use Rattle.std.proofs.shelf.Tests.{lt-leb, le-leb}
 use Rattle.std.proofs.shelf.Results.{err-from-errBy}
 use Rattle.settlement.specs.declared.figures.Tally.{Tally}
-use Rattle.settlement.specs.Limits.{schedule-refusal, reading-refusal, records-refusal, optional}
+use Rattle.settlement.specs.Rulings.{optional}
+use Rattle.settlement.specs.Limits.{schedule-refusal, reading-refusal, records-refusal}
 use Rattle.settlement.specs.Standing.{intervals, seconds, tally-of}
-use Rattle.settlement.proofs.Counting.{ruled-ok, ruled-err}
+use Rattle.settlement.proofs.Rulings.{ruled-ok, ruled-err}
 use Rattle.settlement.proofs.figures.Standing.tally.Needs as need
 
 pub returns-then-tally-gt3600 : need.returns-then-tally-gt3600

@@ -7,9 +7,11 @@ use Rattle.std.specs.Vec.{listOf}
 use Rattle.std.proofs.shelf.Lists.{take-all}
 use Rattle.std.proofs.shelf.Results.{err-from-errBy}
 use Rattle.std.specs.declared.result.Result.the-variants.{Ok}
-use Rattle.settlement.specs.Limits.{interval-refusal, ruled, records-refusal}
+use Rattle.settlement.specs.Rulings.{ruled}
+use Rattle.settlement.specs.Limits.{interval-refusal, records-refusal}
 use Rattle.settlement.specs.Standing.{tally-of}
-use Rattle.settlement.proofs.Counting.{Counted, counted-none, counted-empty, counted-more, counted-refused, ruled-ok, ruled-err}
+use Rattle.settlement.proofs.Rulings.{ruled-ok, ruled-err}
+use Rattle.settlement.proofs.Counting.{Counted, counted-none, counted-empty, counted-more, counted-refused}
 use Rattle.settlement.proofs.figures.Tally.of.Needs as need
 use Rattle.settlement.proofs.figures.Tally.of.Needs.{in-Some·in-Continue-check, in-rest}
 

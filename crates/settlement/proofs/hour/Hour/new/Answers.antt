@@ -3,7 +3,7 @@ use Rattle.std.specs.Options.{isSome}
 use Rattle.std.proofs.shelf.Results.{err-from-errBy}
 use Rattle.settlement.specs.Limits.{hour-refusal}
 use Rattle.settlement.specs.Standing.{intervals, tally-of}
-use Rattle.settlement.proofs.Counting.{ruled-ok, ruled-err}
+use Rattle.settlement.proofs.Rulings.{ruled-ok, ruled-err}
 use Rattle.settlement.proofs.hour.Hour.new.Needs as need
 
 pub returns-in-Break-counted : need.returns-in-Break-counted

@@ -14,7 +14,8 @@ use Rattle.settlement.specs.Changes.{with-record, others}
 use Rattle.settlement.specs.Limits.{interval-refusal}
 use Rattle.settlement.specs.Standing.{intervals, tally-of, seconds}
 use Rattle.settlement.proofs.Changing.{record-within, slot-filled, tally-small, fair-around}
-use Rattle.settlement.proofs.Counting.{Adds, ruled-ok, ruled-err}
+use Rattle.settlement.proofs.Rulings.{ruled-ok, ruled-err}
+use Rattle.settlement.proofs.Counting.{Adds}
 use Rattle.settlement.proofs.Within.{within}
 use Rattle.settlement.proofs.hour.Hour.post.Needs as need
 

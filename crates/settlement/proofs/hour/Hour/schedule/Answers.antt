@@ -1,6 +1,6 @@
 use Rattle.settlement.specs.Limits.{schedule-refusal}
 use Rattle.settlement.proofs.Changing.{row-within}
-use Rattle.settlement.proofs.Counting.{ruled-ok}
+use Rattle.settlement.proofs.Rulings.{ruled-ok}
 use Rattle.settlement.proofs.hour.Hour.schedule.Needs as need
 
 pub ghost-self : need.ghost-self
