@@ -29,7 +29,7 @@ use Rattle.settlement.specs.declared.figures.Standing.{Standing}
 use Rattle.settlement.specs.declared.figures.Tally.{Tally}
 use Rattle.settlement.specs.declared.limits.Refusal.{Refusal}
 use Rattle.settlement.specs.Rulings.{first, optional}
-use Rattle.settlement.specs.Limits.{interval-refusal, schedule-refusal, records-refusal, hour-refusal}
+use Rattle.settlement.specs.Limits.{interval-refusal, schedule-refusal, each-refusal, hour-refusal}
 use Rattle.settlement.specs.Changes.{with-record, with-row, others}
 use Rattle.settlement.specs.Standing.{intervals, seconds, tally-of}
 use Rattle.settlement.proofs.Rulings.{first-none}
@@ -38,10 +38,10 @@ use Rattle.settlement.proofs.Ranges.{Sound, sound}
 use Rattle.settlement.proofs.Within.{Fair, Within, within}
 
 -- Figures each within its limits are an hour within its limits.
-fair-all : (is : List Interval) → All Fair is → records-refusal is ≡ None
-unfolding records-refusal
+fair-all : (is : List Interval) → All Fair is → each-refusal is ≡ None
+unfolding each-refusal
 fair-all [] h = refl
-fair-all (i ∷ is) h = first-none (interval-refusal i) (records-refusal is) (h .0) ∙ fair-all is (h .1)
+fair-all (i ∷ is) h = first-none (interval-refusal i) (each-refusal is) (h .0) ∙ fair-all is (h .1)
 
 pub hour-within : (h : Standing) → Within h → isSome (hour-refusal h) ≡ false
 hour-within h w = rw (fair-all (intervals h) (w .fair), le-leb (seconds h) 3600 (w .short), w .schedule, w .reading)

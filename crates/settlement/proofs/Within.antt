@@ -1,11 +1,11 @@
 -- What is known of the figures of an hour that breaks no limit.
 use mathlib.Core.Path.{_≡_, refl, sym, ap, subst, _∙_}
-use mathlib.Core.Bool.{Bool, true, false}
+use mathlib.Core.Bool.{Bool, true, false, cond}
 use mathlib.Core.List.{List, [], _∷_}
 use Prim.Native.Nat.{ℕ, _*_, _≤_}
 use native.Mathlib.Omega.{arith}
 use native.Mathlib.Nat.{mul-le-mul-left}
-use lib.Dec.{leb}
+use lib.Dec.{eqb, leb}
 use lib.IntN.{ℤ, pos, negsuc, natAbs, _*ℤ_}
 use lib.Signed.{_≤ℤ_}
 use borrow.Author.Differences.{ints}
@@ -22,18 +22,19 @@ use Rattle.settlement.specs.declared.figures.Standing.{Standing}
 use Rattle.settlement.specs.declared.limits.Refusal.{Refusal}
 use Rattle.settlement.specs.declared.limits.Refusal.the-variants.{Overfull}
 use Rattle.settlement.specs.Rulings.{unless, first, optional}
-use Rattle.settlement.specs.Limits.{interval-refusal, schedule-refusal, reading-refusal, records-refusal, hour-refusal}
+use Rattle.settlement.specs.Limits.{interval-refusal, schedule-refusal, reading-refusal, each-refusal, records-refusal, hour-refusal}
 use Rattle.settlement.specs.Standing.{intervals, seconds, volume}
+use Rattle.settlement.specs.Formulas.{settled-by}
 use Rattle.settlement.proofs.Rulings.{passed, neither, none}
 use Rattle.settlement.proofs.Ranges.{Power, Sound, sound, metered}
 
 abbrev pub Fair : Interval → Type 0
 Fair i = interval-refusal i ≡ None
 
-all-fair : (is : List Interval) → records-refusal is ≡ None → All Fair is
-unfolding records-refusal
+all-fair : (is : List Interval) → each-refusal is ≡ None → All Fair is
+unfolding each-refusal
 all-fair [] e = tt
-all-fair (i ∷ is) e = let p = neither (interval-refusal i) (records-refusal is) e in (p .0, all-fair is (p .1))
+all-fair (i ∷ is) e = let p = neither (interval-refusal i) (each-refusal is) e in (p .0, all-fair is (p .1))
 
 pub record Within (h : Standing) : Type 0 where
   pub fair : All Fair (intervals h)
@@ -43,10 +44,19 @@ pub record Within (h : Standing) : Type 0 where
 
 pub within : (h : Standing) → isSome (hour-refusal h) ≡ false → Within h
 within h e =
-    let p = neither (records-refusal (intervals h)) _ (none (hour-refusal h) e) in
+    let o = neither (records-refusal h) _ (none (hour-refusal h) e) in
+    let p = neither (each-refusal (intervals h)) _ (o .0) in
     let q = passed (leb (seconds h) 3600) Overfull _ (p .1) in
-    let r = neither (optional schedule-refusal (h .schedule)) (optional reading-refusal (h .reading)) (q .1) in
+    let r = neither (optional schedule-refusal (h .schedule)) (optional reading-refusal (h .reading)) (o .1) in
     record { fair = all-fair (intervals h) (p .0); short = leb-true (seconds h) 3600 (q .0); schedule = r .0; reading = r .1 }
+
+-- The row that settles an hour is its schedule row.
+pub settling-row : (h : Standing) (g : Schedule) → Some g ≡ settled-by h → h .schedule ≡ Some g
+settling-row h g e = of-two (eqb (seconds h) 3600) (h .schedule) e
+  where
+    of-two : (full : Bool) (o : Option Schedule) → Some g ≡ cond full o None → o ≡ Some g
+    of-two true o e = sym e
+    of-two false o e = let z : _≡_ {A = ℕ} 0 1 = cc in absurd (omega arith)
 
 pub fair-one : (h : Standing) (i : Interval) → Within h → Has (intervals h) i → interval-refusal i ≡ None
 fair-one h i w one = all-has Fair (intervals h) i (w .fair) one

@@ -95,14 +95,15 @@ abbrev pub reading-refusal : ℤ → Option Refusal
 reading-refusal m = unless (power? m) Reading None
 
 -- The first limit that one of some records breaks.
-unfoldable pub records-refusal : List Interval → Option Refusal
-records-refusal [] = None
-records-refusal (i ∷ is) = first (interval-refusal i) (records-refusal is)
+unfoldable pub each-refusal : List Interval → Option Refusal
+each-refusal [] = None
+each-refusal (i ∷ is) = first (interval-refusal i) (each-refusal is)
 
--- The first limit that the figures of an hour break: record by record, then the seconds of the hour, then the schedule
--- row, then the reading.
+-- The first limit that the records of an hour break: record by record, then the seconds of the hour.
+abbrev pub records-refusal : Standing → Option Refusal
+records-refusal h = first (each-refusal (intervals h)) (unless (leb (seconds h) 3600) Overfull None)
+
+-- The first limit that the figures of an hour break: its records, then the schedule row, then the reading.
 abbrev pub hour-refusal : Standing → Option Refusal
 hour-refusal h =
-    first (records-refusal (intervals h))
-    (unless (leb (seconds h) 3600) Overfull
-    (first (optional schedule-refusal (h .schedule)) (optional reading-refusal (h .reading))))
+    first (records-refusal h) (first (optional schedule-refusal (h .schedule)) (optional reading-refusal (h .reading)))

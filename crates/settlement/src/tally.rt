@@ -7,7 +7,7 @@ ghost use Rattle.std.specs.Joined.{joined};
 ghost use Rattle.std.specs.Vec.{listOf};
 ghost use Rattle.std.specs.declared.option.Option.the-variants.{None};
 ghost use Rattle.settlement.specs.Rulings.{ruled, optional};
-ghost use Rattle.settlement.specs.Limits.{interval-refusal, schedule-refusal, reading-refusal, records-refusal, hour-refusal};
+ghost use Rattle.settlement.specs.Limits.{interval-refusal, schedule-refusal, reading-refusal, each-refusal, hour-refusal};
 ghost use Rattle.settlement.specs.Standing.{intervals, tally-of};
 use crate::figures::Interval;
 use crate::figures::Schedule;
@@ -49,7 +49,7 @@ impl Tally {
 
     // What stands in an hour's slots, or the first limit that a record breaks.
     fn of(records: &[Option<Interval>; 24]) -> Result<Tally, Refusal>
-        ensures value { λ r. ⌜ r ≡ ruled (records-refusal (joined listOf (now (records .entry)))) (tally-of (joined listOf (now (records .entry)))) ⌝ }
+        ensures value { λ r. ⌜ r ≡ ruled (each-refusal (joined listOf (now (records .entry)))) (tally-of (joined listOf (now (records .entry)))) ⌝ }
         ensures slots { λ _. ⌜ length (now (records .entry)) ≡ 24 ⌝ }
     {
         let mut tally = Tally {

@@ -8,7 +8,7 @@ use Rattle.std.proofs.shelf.Lists.{take-all}
 use Rattle.std.proofs.shelf.Results.{err-from-errBy}
 use Rattle.std.specs.declared.result.Result.the-variants.{Ok}
 use Rattle.settlement.specs.Rulings.{ruled}
-use Rattle.settlement.specs.Limits.{interval-refusal, records-refusal}
+use Rattle.settlement.specs.Limits.{interval-refusal, each-refusal}
 use Rattle.settlement.specs.Standing.{tally-of}
 use Rattle.settlement.proofs.Rulings.{ruled-ok, ruled-err}
 use Rattle.settlement.proofs.Counting.{Counted, counted-none, counted-empty, counted-more, counted-refused}
@@ -60,6 +60,6 @@ returns c =
     record {
       value =
           ap Ok (c .loop-record .inv .is ∙ ap (λ zs. tally-of (joined listOf zs)) all)
-          ∙ ap (λ o. ruled o (tally-of (joined listOf xs))) (sym (c .loop-record .inv .passed) ∙ ap (λ zs. records-refusal (joined listOf zs)) all);
+          ∙ ap (λ o. ruled o (tally-of (joined listOf xs))) (sym (c .loop-record .inv .passed) ∙ ap (λ zs. each-refusal (joined listOf zs)) all);
       slots = c .told-records;
     }
