@@ -1,4 +1,6 @@
 // Rounding a quotient of whole numbers, a half away from zero: the one place where anything is rounded.
+#![tactic(auto)]
+
 ghost use Rattle.std.specs.Prelude.{◌≡◌, ◌*◌, ◌^◌, ◌<◌, ◌≤◌, ℤ, pos, ◌*ℤ◌, neg_ℤ, MatchOption};
 ghost use Rattle.arithmetic.specs.Rounding.{half_up, nearest as nearest_ℤ, WithinHalf};
 

@@ -1,5 +1,7 @@
 // The plain book of a day: the calls of a statement, their answers and faults, what each call comes to, and the law by
 // which a statement and its store are held to the book.
+#![tactic(auto)]
+
 mod calls;
 mod faults;
 mod figures;

@@ -1,4 +1,6 @@
 // Day files: a day's header and calls as bytes, read and written.
+#![tactic(auto)]
+
 mod day;
 mod entry;
 mod faults;

@@ -1,4 +1,6 @@
 // The run of a day file: its calls through the gate, and what is printed of them.
+#![tactic(auto)]
+
 mod days;
 mod entries;
 mod pages;

@@ -1,4 +1,6 @@
 // What an owner's terminal prints, against bytes that are written out by hand.
+#![tactic(auto)]
+
 #[cfg(test)]
 mod days;
 #[cfg(test)]

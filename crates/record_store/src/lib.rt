@@ -1,4 +1,6 @@
 // Where an hour's records are kept: what any store means, and two kinds of store over memory that the caller lends.
+#![tactic(auto)]
+
 mod faults;
 mod journal;
 mod places;

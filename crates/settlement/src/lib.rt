@@ -1,5 +1,7 @@
 // The settlement of one hour of a power station, to the cent: its figures and their limits, the editions of the
 // operator's text, the sharing of a reading, and the hour's line.
+#![tactic(auto)]
+
 mod amounts;
 mod editions;
 mod figures;

@@ -1,4 +1,6 @@
 // Tables of cases for the settlement of an hour. Expected values are worked out by hand.
+#![tactic(auto)]
+
 #[cfg(test)]
 mod hours;
 #[cfg(test)]

@@ -1,4 +1,6 @@
 // The statement of a power station's day, kept true through every change.
+#![tactic(auto)]
+
 mod day;
 mod locked;
 mod statement;

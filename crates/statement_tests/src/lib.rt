@@ -1,4 +1,6 @@
 // Tables of calls to a statement, with what each is answered. Expected values are worked out by hand.
+#![tactic(auto)]
+
 mod figures;
 mod locking;
 #[cfg(test)]

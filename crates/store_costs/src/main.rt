@@ -1,4 +1,6 @@
 // Does one thing to a store many times over, so that what it costs can be counted from outside.
+#![tactic(auto)]
+
 use anyhow::anyhow;
 use record_store::{Journal, Lent, Place, Pool, Store};
 use settlement::{Interval, Limits, Prices, SpinPrices};

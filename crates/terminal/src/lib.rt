@@ -1,4 +1,6 @@
 // Standard input and output of the programs.
+#![tactic(auto)]
+
 use anyhow::anyhow;
 use day_run::Printout;
 use std::alloc::AllocError;

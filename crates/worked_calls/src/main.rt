@@ -1,5 +1,7 @@
 // Settles two hours of a station under both editions, and a third while its figures are corrected, and prints what they
 // come to, in cents. Each is a list of calls, played on a statement that keeps its records in a pool.
+#![tactic(auto)]
+
 mod calls;
 mod hours;
 mod print;

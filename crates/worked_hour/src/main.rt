@@ -1,4 +1,6 @@
 // Settles two hours of a station under both editions and prints what they come to, in cents.
+#![tactic(auto)]
+
 mod hours;
 
 use hours::{operators_hour, shared_hour};

@@ -35,10 +35,10 @@ pub returns-then-n-ge0 : goal.returns-then-n-ge0
 returns-then-n-ge0 c =
     let n = c.args.n in
     let d = c.args.d in
-    let s = c.half-up-size.result in
+    let s = c.half_up-size.result in
     let fits : to_z w64 s ≡ pos s = omega (arith, ints) in
     let back = to_z-of_z w64 n c.ranges.n in
-    let v = size_up n d.value _ s (c.unsigned-abs.ensures.value ∙ ap nat_abs back) c.half-up-size.ensures.value (ap (le_z (pos 0)) (sym back) ∙ c.if-n-ge0.true) in
+    let v = size_up n d.value _ s (c.unsigned_abs.ensures.value ∙ ap nat_abs back) c.half_up-size.ensures.value (ap (le_z (pos 0)) (sym back) ∙ c.if-n-ge0.true) in
     let p = promise n d.value _ d.above_zero (fits ∙ v) in
     record { value = p.value; within = p.within; odd = p.odd; exact = p.exact }
 
@@ -46,10 +46,10 @@ pub returns-then-size : goal.returns-then-size
 returns-then-size c =
     let n = c.args.n in
     let d = c.args.d in
-    let s = c.half-up-size.result in
+    let s = c.half_up-size.result in
     let fits : negsuc 9223372036854775807 ≡ neg_ℤ (pos s) = omega (arith, ints) in
     let back = to_z-of_z w64 n c.ranges.n in
-    let v = size_down n d.value _ s (c.unsigned-abs.ensures.value ∙ ap nat_abs back) c.half-up-size.ensures.value (ap (le_z (pos 0)) (sym back) ∙ c.if-n-ge0.false) in
+    let v = size_down n d.value _ s (c.unsigned_abs.ensures.value ∙ ap nat_abs back) c.half_up-size.ensures.value (ap (le_z (pos 0)) (sym back) ∙ c.if-n-ge0.false) in
     let p = promise n d.value _ d.above_zero (fits ∙ v) in
     record { value = p.value; within = p.within; odd = p.odd; exact = p.exact }
 
@@ -57,9 +57,9 @@ pub returns-else-size : goal.returns-else-size
 returns-else-size c =
     let n = c.args.n in
     let d = c.args.d in
-    let s = c.half-up-size.result in
+    let s = c.half_up-size.result in
     let fits : to_z w64 (of_z w64 (pos 0 -ℤ to_z w64 s)) ≡ neg_ℤ (pos s) = omega (arith, ints) in
     let back = to_z-of_z w64 n c.ranges.n in
-    let v = size_down n d.value _ s (c.unsigned-abs.ensures.value ∙ ap nat_abs back) c.half-up-size.ensures.value (ap (le_z (pos 0)) (sym back) ∙ c.if-n-ge0.false) in
+    let v = size_down n d.value _ s (c.unsigned_abs.ensures.value ∙ ap nat_abs back) c.half_up-size.ensures.value (ap (le_z (pos 0)) (sym back) ∙ c.if-n-ge0.false) in
     let p = promise n d.value _ d.above_zero (fits ∙ v) in
     record { value = p.value; within = p.within; odd = p.odd; exact = p.exact }
