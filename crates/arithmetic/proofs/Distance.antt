@@ -1,5 +1,5 @@
 -- How far a rounded amount lies from the exact fraction, over plain numbers.
-use Rattle.std.proofs.Common.{◌≡◌, ℕ, ◌+◌, ◌*◌, ◌<◌, ◌≤◌, ℤ, pos, ◌+ℤ◌, ◌-ℤ◌, ◌*ℤ◌, nat_abs, ap, subst, mul-le-mul_right, mul-le-mul_left, arith}
+use Rattle.std.proofs.Common.{◌≡◌, ℕ, ◌+◌, ◌*◌, ◌<◌, ◌≤◌, ℤ, pos, ◌-ℤ◌, ◌*ℤ◌, nat_abs, ap, subst, mul-le-mul_right, mul-le-mul_left, arith}
 use native.Mathlib.Nat.{le_of_mul-le-mul_left}
 use Rattle.arithmetic.specs.Rounding.{WithinHalf}
 use Rattle.arithmetic.proofs.Ring.{int, nat, ◌:+◌, ◌:-◌, ◌:*◌, ◌times◌, ring}

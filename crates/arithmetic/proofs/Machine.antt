@@ -1,11 +1,11 @@
 -- What the machine holds of a signed number: a number that went to its bits and back is the same where it is small
 -- enough. The lemmas follow the code's expression: a leaf, an operation, and after each the way to the bits and back.
-use Rattle.std.proofs.Common.{◌≡◌, ℕ, ◌+◌, ◌*◌, ◌^◌, ◌<◌, ◌≤◌, ℤ, pos, ◌+ℤ◌, ◌-ℤ◌, ◌*ℤ◌, neg_ℤ, nat_abs, sym, refl, ap, ◌∙◌, subst, le_trans, mul-le-mul, arith, SFits, to_z, of_z}
+use Rattle.std.proofs.Common.{◌≡◌, ℕ, ◌+◌, ◌*◌, ◌^◌, ◌<◌, ◌≤◌, ℤ, pos, ◌+ℤ◌, ◌-ℤ◌, ◌*ℤ◌, nat_abs, sym, refl, ap, ◌∙◌, subst, le_trans, mul-le-mul, arith, SFits, to_z, of_z}
 use borrow.Author.Differences.{ints}
 use mir.Syntax.{Width}
 use mir.Val.{hbits}
 use Rattle.std.proofs.lemmas.Int.{to_z-of_z, to_z_pos}
-use Rattle.arithmetic.proofs.Sizes.{abs_product, abs_sum, abs_neg}
+use Rattle.arithmetic.proofs.Sizes.{abs_product, abs_sum}
 
 -- The code's term u is the number z, whose size is at most n.
 pub record Holds (u z : ℤ) (n : ℕ) : Type 0 where

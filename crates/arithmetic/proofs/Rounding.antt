@@ -1,5 +1,5 @@
 -- Where a rounded quotient lies.
-use Rattle.std.proofs.Common.{◌≡◌, ℕ, zero, suc, ◌+◌, ◌*◌, ◌/◌, ◌%◌, ◌<◌, ◌≤◌, ℤ, pos, negsuc, ◌-ℤ◌, ◌*ℤ◌, neg_ℤ, nat_abs, sym, refl, ap, ◌∙◌, subst, mod-lt, arith}
+use Rattle.std.proofs.Common.{◌≡◌, ℕ, zero, suc, ◌+◌, ◌*◌, ◌/◌, ◌%◌, ◌<◌, ◌≤◌, ℤ, pos, negsuc, ◌-ℤ◌, ◌*ℤ◌, neg_ℤ, nat_abs, sym, refl, ap, subst, mod-lt, arith}
 use native.Mathlib.Nat.{div-add-mod, div-eq_of_lt, div-eq_of_lt-le, lt_of_mul-lt-mul_left}
 use lib.IntN.{neg_ℤ-neg_ℤ}
 use borrow.Author.Differences.{ints, neg_is}

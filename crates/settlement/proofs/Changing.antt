@@ -1,6 +1,6 @@
 -- An hour that breaks no limit still breaks none where one of its figures is changed for another within its limits; and
 -- what is counted in it changes by that figure alone.
-use Rattle.std.proofs.Common.{◌≡◌, ℕ, suc, ◌+◌, ◌*◌, ◌<◌, ◌≤◌, Bool, true, false, leb, List, [], ◌∷◌, ◌++◌, length, get_or, take, drop, set, ℤ, pos, ◌+ℤ◌, ◌-ℤ◌, ◌*ℤ◌, nat_abs, is_some, Some, None, sum_by, Option, sym, refl, ap, ◌∙◌, subst, mul-le-mul_right, mul-le-mul, arith}
+use Rattle.std.proofs.Common.{◌≡◌, ℕ, suc, ◌+◌, ◌*◌, ◌<◌, ◌≤◌, false, List, [], ◌∷◌, ◌++◌, length, get_or, take, drop, set, ℤ, pos, ◌+ℤ◌, ◌-ℤ◌, ◌*ℤ◌, nat_abs, is_some, Some, None, sum_by, Option, sym, refl, ap, ◌∙◌, subst, mul-le-mul, arith}
 use borrow.Author.Differences.{ints}
 use Rattle.std.specs.List.{flat_map, ContainsAt as Has, AllByRecursion as All}
 use Rattle.std.specs.Option.{option_to_list}
@@ -15,14 +15,13 @@ use Rattle.settlement.specs.declared.figures.Interval.{Interval}
 use Rattle.settlement.specs.declared.figures.Schedule.{Schedule}
 use Rattle.settlement.specs.declared.figures.Standing.{Standing}
 use Rattle.settlement.specs.declared.figures.Tally.{Tally}
-use Rattle.settlement.specs.declared.limits.Refusal.{Refusal}
-use Rattle.settlement.specs.Rulings.{first, optional}
+use Rattle.settlement.specs.Rulings.{optional}
 use Rattle.settlement.specs.Limits.{interval_refusal, schedule_refusal, each_refusal, hour_refusal}
 use Rattle.settlement.specs.Changes.{with_record, with_row, others}
 use Rattle.settlement.specs.Standing.{intervals, seconds, tally_of}
 use Rattle.settlement.proofs.Rulings.{first_none}
 use Rattle.settlement.proofs.Counting.{Adds}
-use Rattle.settlement.proofs.Ranges.{Sound, sound}
+use Rattle.settlement.proofs.Ranges.{sound}
 use Rattle.settlement.proofs.Within.{Fair, Within, within}
 
 -- Figures each within its limits are an hour within its limits.

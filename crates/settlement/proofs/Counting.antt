@@ -1,20 +1,19 @@
 -- Counting the records of an hour, one place after another.
-use Rattle.std.proofs.Common.{◌≡◌, ℕ, ◌+◌, ◌*◌, ◌<◌, ◌≤◌, List, [], ◌∷◌, ◌++◌, length, get_or, take, drop, ℤ, pos, ◌+ℤ◌, ◌*ℤ◌, nat_abs, Some, None, Ok, Err, Option, sym, refl, ap, ◌∙◌, mul-le-mul, arith, lit≤}
+use Rattle.std.proofs.Common.{◌≡◌, ℕ, ◌+◌, ◌*◌, ◌<◌, ◌≤◌, List, [], ◌∷◌, ◌++◌, length, get_or, take, drop, pos, ◌+ℤ◌, ◌*ℤ◌, nat_abs, Some, None, Option, sym, refl, ap, ◌∙◌, mul-le-mul, arith, lit≤}
 use Rattle.std.specs.List.{flat_map}
 use Rattle.std.specs.Option.{option_to_list}
-use Rattle.std.proofs.lemmas.List.{length_push, take_all, take-append-drop, append-nil}
+use Rattle.std.proofs.lemmas.List.{length_push, take-append-drop, append-nil}
 use Rattle.std.proofs.lemmas.List.Sums.{sum_by_push}
-use Rattle.arithmetic.specs.Sums.{sum_ℤ}
 use Rattle.arithmetic.proofs.Sizes.{abs_sum, abs_product}
 use Rattle.arithmetic.proofs.Sums.{sum_ℤ-push, sum_ℤ_none, standing_more, standing_append}
 use Rattle.settlement.specs.declared.figures.Interval.{Interval}
 use Rattle.settlement.specs.declared.figures.Tally.{Tally}
 use Rattle.settlement.specs.declared.limits.Refusal.{Refusal}
-use Rattle.settlement.specs.Rulings.{ruled, first}
+use Rattle.settlement.specs.Rulings.{first}
 use Rattle.settlement.specs.Limits.{interval_refusal, each_refusal}
 use Rattle.settlement.proofs.Ranges.{sound}
 use Rattle.settlement.proofs.Rulings.{first_none, first_assoc}
-use Rattle.settlement.specs.Standing.{tally_of, seconds_of, volume_of}
+use Rattle.settlement.specs.Standing.{tally_of}
 
 -- What an interval adds to a tally.
 pub record Adds (t u : Tally) (i : Interval) : Type 0 where

@@ -1,7 +1,6 @@
 -- The amounts of a settled hour lie near the exact fractions, its shared kW add up to the reading, and its balancing total
 -- does not depend on the sign shown.
-use Rattle.std.proofs.Common.{◌≡◌, ℕ, ◌+◌, ◌*◌, ◌<◌, ◌≤◌, Bool, true, false, cond, eqb, List, [], ◌∷◌, ℤ, pos, negsuc, ◌+ℤ◌, ◌-ℤ◌, ◌*ℤ◌, neg_ℤ, nat_abs, Some, None, sum_by, Option, sym, refl, ap, ◌∙◌, subst, ⊎_elim, arith, lit<}
-use native.Mathlib.Nat.{le_of_mul-le-mul_left}
+use Rattle.std.proofs.Common.{◌≡◌, ℕ, ◌+◌, ◌*◌, ◌<◌, ◌≤◌, Bool, true, false, cond, eqb, List, ℤ, pos, ◌+ℤ◌, ◌-ℤ◌, ◌*ℤ◌, neg_ℤ, nat_abs, Some, None, sum_by, Option, sym, refl, ap, ◌∙◌, subst, ⊎_elim, arith, lit<}
 use lib.IntN.{neg_ℤ-neg_ℤ}
 use lib.Signed.{lt_z}
 use borrow.Author.Differences.{ints, lt-true}
@@ -9,9 +8,9 @@ use Rattle.std.proofs.lemmas.Bool.{cases_Bool, eqb-true}
 use Rattle.arithmetic.specs.Rounding.{nearest, WithinHalf}
 use Rattle.arithmetic.specs.Sums.{sum_ℤ}
 use Rattle.arithmetic.proofs.Distance.{assoc, distance, share_near, whole_near}
-use Rattle.arithmetic.proofs.Ring.{int, nat, neg, ◌:+◌, ◌:-◌, ◌:*◌, ◌times◌, ring}
+use Rattle.arithmetic.proofs.Ring.{int, nat, neg, ◌:*◌, ring}
 use Rattle.arithmetic.proofs.Rounding.{nearest_near, nearest-neg}
-use Rattle.arithmetic.proofs.Sizes.{abs_product, abs_flip, abs_sum}
+use Rattle.arithmetic.proofs.Sizes.{abs_product, abs_flip}
 use Rattle.arithmetic.proofs.Sums.{sum_ℤ_near, sum_ℤ_scale, sum_ℤ_naturals, sum_ℤ-neg, sum_by_scale}
 use Rattle.settlement.specs.declared.figures.Interval.{Interval}
 use Rattle.settlement.specs.declared.figures.Region.{Region}
@@ -21,8 +20,8 @@ use Rattle.settlement.specs.declared.editions.Sign.{Sign}
 use Rattle.settlement.specs.declared.editions.Sign.TheVariants.{Plus, Minus}
 use Rattle.settlement.specs.Editions.{Terms, Lawful, scaled}
 use Rattle.settlement.specs.Standing.{intervals, seconds, volume}
-use Rattle.settlement.specs.Formulas.{settled_by, share, adjusted, basis, balance, amount, shown, figures, sums, settled_sums, hour_line}
-use Rattle.settlement.specs.Nearness.{by_averages, divisor, metered, exact_basis, exact, tolerance, Near, NearLine, NearWhereSettled, SharesReading, SignFree}
+use Rattle.settlement.specs.Formulas.{settled_by, share, adjusted, basis, balance, amount, shown, sums, settled_sums, hour_line}
+use Rattle.settlement.specs.Nearness.{by_averages, divisor, metered, exact_basis, exact, tolerance, Near, NearWhereSettled, SharesReading, SignFree}
 
 -- A basis, k times, is as near to the rule on other figures k times as large as the adjusted energy is to those.
 rule_near : (e : Terms) → Lawful e → (f k : ℕ) (a x : ℤ) (l : _) → 1 ≤ k → WithinHalf x k a → WithinHalf (e.rule f x (scaled k l)) k (e.rule f a l)

@@ -1,5 +1,5 @@
 -- What figures that no limit refuses are known to lie between.
-use Rattle.std.proofs.Common.{◌≡◌, ℕ, ◌≤◌, Bool, true, false, ◌&&◌, leb, ℤ, pos, nat_abs, ◌≤ℤ◌, Some, None, Option, refl, arith}
+use Rattle.std.proofs.Common.{◌≡◌, ◌≤◌, true, ◌&&◌, leb, ℤ, pos, nat_abs, ◌≤ℤ◌, None, arith}
 use lib.Signed.{le_z}
 use borrow.Author.Differences.{ints}
 use Rattle.std.proofs.lemmas.Bool.{and_parts, leb-true}
@@ -7,9 +7,7 @@ use Rattle.settlement.specs.declared.figures.Interval.{Interval}
 use Rattle.settlement.specs.declared.figures.Limits.{Limits}
 use Rattle.settlement.specs.declared.figures.Prices.{Prices}
 use Rattle.settlement.specs.declared.figures.Schedule.{Schedule}
-use Rattle.settlement.specs.declared.limits.Refusal.{Refusal}
 use Rattle.settlement.proofs.Rulings.{passed}
-use Rattle.settlement.specs.Rulings.{unless}
 use Rattle.settlement.specs.Limits.{fits_power, fits_basepoint, fits_price, fits_prices, fits_limits, fits_length, fits_flags, fits_powers, fits_real_time_prices, fits_sold, interval_refusal, schedule_refusal, reading_refusal}
 
 pub record Power (x : ℤ) : Type 0 where

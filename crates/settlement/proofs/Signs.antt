@@ -1,5 +1,5 @@
 -- The sign with which an amount is shown.
-use Rattle.std.proofs.Common.{◌≡◌, ◌≤◌, ℤ, nat_abs, arith}
+use Rattle.std.proofs.Common.{◌≡◌, ℤ, nat_abs, arith}
 use Rattle.arithmetic.proofs.Sizes.{abs_neg}
 use Rattle.settlement.specs.declared.editions.Sign.{Sign}
 use Rattle.settlement.specs.declared.editions.Sign.TheVariants.{Plus, Minus}

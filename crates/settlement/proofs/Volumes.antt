@@ -1,5 +1,5 @@
 -- What an interval adds to a tally of an hour, as the code holds it.
-use Rattle.std.proofs.Common.{ℕ, ◌*◌, ◌≤◌, ℤ, pos, ◌+ℤ◌, ◌-ℤ◌, ◌*ℤ◌, nat_abs, lit<, w64, to_z, of_z}
+use Rattle.std.proofs.Common.{◌*◌, ◌≤◌, ℤ, pos, ◌+ℤ◌, ◌-ℤ◌, ◌*ℤ◌, nat_abs, lit<, w64, to_z, of_z}
 use Rattle.arithmetic.proofs.Machine.{Holds, whole, natural, back, plus, minus, times}
 use Rattle.settlement.specs.declared.figures.Interval.{Interval}
 use Rattle.settlement.proofs.Ranges.{Sound}

@@ -1,5 +1,5 @@
 -- What is known of the figures of an hour that breaks no limit.
-use Rattle.std.proofs.Common.{◌≡◌, ℕ, ◌*◌, ◌≤◌, Bool, true, false, cond, eqb, leb, List, [], ◌∷◌, ℤ, pos, negsuc, ◌*ℤ◌, nat_abs, ◌≤ℤ◌, is_some, Some, None, Option, sym, refl, ap, ◌∙◌, subst, mul-le-mul_left, arith}
+use Rattle.std.proofs.Common.{◌≡◌, ℕ, ◌*◌, ◌≤◌, Bool, true, false, cond, eqb, leb, List, [], ◌∷◌, ℤ, pos, negsuc, ◌*ℤ◌, nat_abs, ◌≤ℤ◌, is_some, Some, None, Option, sym, ap, ◌∙◌, subst, mul-le-mul_left, arith}
 use borrow.Author.Differences.{ints}
 use Rattle.std.specs.List.{ContainsAt as Has, AllByRecursion as All}
 use Rattle.std.proofs.ByRecursion.{all-has, All-weaker}
@@ -8,9 +8,8 @@ use Rattle.arithmetic.proofs.Sums.{sum_ℤ_positive, sum_ℤ_part}
 use Rattle.settlement.specs.declared.figures.Interval.{Interval}
 use Rattle.settlement.specs.declared.figures.Schedule.{Schedule}
 use Rattle.settlement.specs.declared.figures.Standing.{Standing}
-use Rattle.settlement.specs.declared.limits.Refusal.{Refusal}
 use Rattle.settlement.specs.declared.limits.Refusal.TheVariants.{Overfull}
-use Rattle.settlement.specs.Rulings.{unless, first, optional}
+use Rattle.settlement.specs.Rulings.{optional}
 use Rattle.settlement.specs.Limits.{interval_refusal, schedule_refusal, reading_refusal, each_refusal, records_refusal, hour_refusal}
 use Rattle.settlement.specs.Standing.{intervals, seconds, volume}
 use Rattle.settlement.specs.Formulas.{settled_by}

@@ -1,5 +1,5 @@
 -- How large the figures of a line can be: so small that those of a day add up without overflow.
-use Rattle.std.specs.Prelude.{ℕ, ◌^◌, Bool, ◌&&◌, ℤ, nat_le, unsigned_abs}
+use Rattle.std.specs.Prelude.{◌^◌, Bool, ◌&&◌, ℤ, nat_le, unsigned_abs}
 use Rattle.settlement.specs.declared.figures.Amounts.{Amounts}
 use Rattle.settlement.specs.declared.figures.HourLine.{HourLine}
 
@@ -14,3 +14,7 @@ is_small_amounts a = is_small a.energy && is_small a.loss && is_small a.congesti
 -- A line of which every figure is small.
 abbrev pub is_small_line : HourLine → Bool
 is_small_line l = is_small_amounts l.ahead && is_small l.balance && is_small_amounts l.balancing && is_small l.spin && is_small l.total
+
+-- A line of at most 24 intervals and 3,600 seconds.
+abbrev pub is_short_line : HourLine → Bool
+is_short_line l = nat_le l.intervals 24 && nat_le l.seconds 3600

@@ -1,5 +1,5 @@
 -- Changing what stands in an hour: why a change is refused, and what stands after it.
-use Rattle.std.specs.Prelude.{ℕ, ◌+◌, cond, ℤ, is_some, Some, None, Option, nat_le, nat_lt, slice_index_or, slice_set}
+use Rattle.std.specs.Prelude.{ℕ, ◌+◌, ℤ, is_some, Some, None, Option, nat_le, nat_lt, slice_index_or, slice_set}
 use Rattle.settlement.specs.declared.figures.Interval.{Interval}
 use Rattle.settlement.specs.declared.figures.Schedule.{Schedule}
 use Rattle.settlement.specs.declared.figures.Standing.{Standing}

@@ -1,6 +1,6 @@
 -- How near the amounts of a settled hour lie to the exact fractions, and how near its shared kW come to the reading.
 -- Fractions are compared in whole numbers, both sides multiplied by 7,200,000 and by what the exact basis is divided by.
-use Rattle.std.specs.Prelude.{◌≡◌, ℕ, ◌+◌, ◌*◌, ◌≤◌, Bool, true, false, cond, ℤ, pos, ◌+ℤ◌, ◌-ℤ◌, ◌*ℤ◌, Some, None, sum_by, Option, int_lt, unsigned_abs}
+use Rattle.std.specs.Prelude.{◌≡◌, ℕ, ◌+◌, ◌*◌, ◌≤◌, Bool, false, cond, ℤ, pos, ◌+ℤ◌, ◌-ℤ◌, ◌*ℤ◌, Some, None, sum_by, Option, int_lt, unsigned_abs}
 use Rattle.arithmetic.specs.Sums.{sum_ℤ}
 use Rattle.settlement.specs.declared.figures.Interval.{Interval}
 use Rattle.settlement.specs.declared.figures.Region.{Region}

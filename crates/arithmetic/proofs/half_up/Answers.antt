@@ -1,4 +1,4 @@
-use Rattle.std.proofs.Common.{◌≡◌, arith}
+use Rattle.std.proofs.Common.{arith}
 use Rattle.arithmetic.proofs.Rounding.{half_up_cut, half_up_le}
 use Rattle.arithmetic.proofs.half_up.Goals as goal
 

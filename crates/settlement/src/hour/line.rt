@@ -1,6 +1,6 @@
 // The line of an hour, and the figures of the interval in a slot.
 ghost use Rattle.std.specs.Prelude.{◌≡◌, ◌*◌, ◌≤◌, true, None, slice_index_or, unsigned_abs};
-ghost use Rattle.settlement.specs.Bounds.{is_small_line};
+ghost use Rattle.settlement.specs.Bounds.{is_small_line, is_short_line};
 ghost use Rattle.settlement.specs.Nearness.{NearWhereSettled, SharesReading, SignFree};
 ghost use Rattle.settlement.specs.Formulas.{settled_by, settled_sums, ahead as ahead_ℤ, line_of, hour_line, figures_at};
 
@@ -66,6 +66,7 @@ impl Hour {
         requires spin { unsigned_abs sums.now.spin ≤ 24 * 1206000000000 }
         ensures value { result ≡ line_of sign self.now.standing sums.now }
         ensures small { is_small_line result ≡ true }
+        ensures short { is_short_line result ≡ true }
     {
         let state = match self.settled_by() {
             Some(_) => State::Settled,
@@ -92,6 +93,7 @@ impl Hour {
         ensures shared { SharesReading self.now.standing }
         ensures sign_free { SignFree (E.Edition.terms edition.now) region self.now.standing result }
         ensures small { is_small_line result ≡ true }
+        ensures short { is_short_line result ≡ true }
     {
         self.close(edition.sign(), &self.settled_sums(edition, region))
     }

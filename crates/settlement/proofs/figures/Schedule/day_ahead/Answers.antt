@@ -1,7 +1,7 @@
 use Rattle.std.proofs.Common.{◌≡◌, ◌^◌, ◌≤◌, ℤ, pos, ◌-ℤ◌, neg_ℤ, nat_abs, ap, ◌∙◌, arith, lit<, w32, w64, SFits, to_z, of_z, rules}
 use borrow.Author.Differences.{ints}
 use Rattle.std.proofs.lemmas.Int.{to_z-of_z}
-use Rattle.arithmetic.proofs.Machine.{Holds, holds, whole, back, sized}
+use Rattle.arithmetic.proofs.Machine.{Holds, holds, back, sized}
 use Rattle.arithmetic.proofs.Sizes.{abs_neg}
 use Rattle.settlement.specs.declared.figures.Schedule.{Schedule}
 use Rattle.settlement.specs.declared.editions.Sign.TheVariants.{Minus}

@@ -1,4 +1,4 @@
-use Rattle.std.proofs.Common.{◌≡◌, ℕ, ◌-◌, ◌*◌, ◌^◌, ◌≤◌, ℤ, pos, ◌-ℤ◌, ◌*ℤ◌, nat_abs, ap, ◌∙◌, arith, lit<, lit≤, w32, w64, SFits, to_z, of_z, rules}
+use Rattle.std.proofs.Common.{◌-◌, ◌*◌, ◌^◌, ℤ, ◌-ℤ◌, ◌*ℤ◌, ap, ◌∙◌, arith, lit<, lit≤, w32, w64, SFits, to_z, of_z, rules}
 use borrow.Author.Differences.{ints}
 use Rattle.arithmetic.specs.Rounding.{nearest}
 use Rattle.arithmetic.proofs.Machine.{Holds, holds, read, fits, back, minus, times, wider, sized}
@@ -20,8 +20,8 @@ module _ (sold bought price : ℤ) (f : SFits w32 sold) (g : SFits w32 bought) (
   product : Holds (to_z w64 (of_z w64 (wide sold -ℤ wide bought)) *ℤ wide price) ((sold -ℤ bought) *ℤ price) ((2 ^ 32 - 1) * 2 ^ 31)
   product = times (back w64 net (lit< tt)) (figure price h)
 
-pub overflow-mul-self : goal.overflow-mul-self
-overflow-mul-self c =
+pub overflow_mul-self : goal.overflow_mul-self
+overflow_mul-self c =
     let row = c.args.self.now in
     fits w64 (product row.generation row.transactions c.args.price (search rules) (search rules) c.ranges.price) (lit< tt)
 

@@ -1,4 +1,4 @@
-use Rattle.std.proofs.Common.{◌≡◌, ℕ, ◌+◌, ◌*◌, ◌≤◌, ℤ, pos, ◌+ℤ◌, ◌*ℤ◌, nat_abs, lit<, w64, to_z, of_z}
+use Rattle.std.proofs.Common.{ℕ, ◌*◌, ◌≤◌, ℤ, pos, ◌+ℤ◌, ◌*ℤ◌, nat_abs, lit<, w64, to_z, of_z}
 use Rattle.arithmetic.proofs.Machine.{Holds, whole, natural, fits, back, plus, times}
 use Rattle.settlement.proofs.figures.Sums.add.Goals as goal
 
@@ -14,23 +14,23 @@ balances x b s g h k = plus (back w64 (whole x (23 * 4341600000000) g) (lit< tt)
 added : (x y : ℤ) → nat_abs x ≤ 23 * 1206000000000 → nat_abs y ≤ 1206000000000 → Holds (to_z w64 (of_z w64 x) +ℤ to_z w64 (of_z w64 y)) (x +ℤ y) (24 * 1206000000000)
 added x y g h = plus (back w64 (whole x (23 * 1206000000000) g) (lit< tt)) (back w64 (whole y 1206000000000 h) (lit< tt))
 
-pub overflow-mul-self : goal.overflow-mul-self
-overflow-mul-self c = fits w64 (energy c.args.figures.now.balance c.args.seconds c.requires.balance.1 c.requires.seconds) (lit< tt)
+pub overflow_mul-self : goal.overflow_mul-self
+overflow_mul-self c = fits w64 (energy c.args.figures.now.balance c.args.seconds c.requires.balance.1 c.requires.seconds) (lit< tt)
 
-pub overflow-add-self : goal.overflow-add-self
-overflow-add-self c = fits w64 (balances c.args.self.now.balance c.args.figures.now.balance c.args.seconds c.requires.balance.0 c.requires.balance.1 c.requires.seconds) (lit< tt)
+pub overflow_add-self : goal.overflow_add-self
+overflow_add-self c = fits w64 (balances c.args.self.now.balance c.args.figures.now.balance c.args.seconds c.requires.balance.0 c.requires.balance.1 c.requires.seconds) (lit< tt)
 
-pub overflow-add-self-2 : goal.overflow-add-self-2
-overflow-add-self-2 c = fits w64 (added c.args.self.now.energy c.args.figures.now.energy c.requires.energy.0 c.requires.energy.1) (lit< tt)
+pub overflow_add-self-2 : goal.overflow_add-self-2
+overflow_add-self-2 c = fits w64 (added c.args.self.now.energy c.args.figures.now.energy c.requires.energy.0 c.requires.energy.1) (lit< tt)
 
-pub overflow-add-self-3 : goal.overflow-add-self-3
-overflow-add-self-3 c = fits w64 (added c.args.self.now.loss c.args.figures.now.loss c.requires.loss.0 c.requires.loss.1) (lit< tt)
+pub overflow_add-self-3 : goal.overflow_add-self-3
+overflow_add-self-3 c = fits w64 (added c.args.self.now.loss c.args.figures.now.loss c.requires.loss.0 c.requires.loss.1) (lit< tt)
 
-pub overflow-add-self-4 : goal.overflow-add-self-4
-overflow-add-self-4 c = fits w64 (added c.args.self.now.congestion c.args.figures.now.congestion c.requires.congestion.0 c.requires.congestion.1) (lit< tt)
+pub overflow_add-self-4 : goal.overflow_add-self-4
+overflow_add-self-4 c = fits w64 (added c.args.self.now.congestion c.args.figures.now.congestion c.requires.congestion.0 c.requires.congestion.1) (lit< tt)
 
-pub overflow-add-self-5 : goal.overflow-add-self-5
-overflow-add-self-5 c = fits w64 (added c.args.self.now.spin c.args.figures.now.spin c.requires.spin.0 c.requires.spin.1) (lit< tt)
+pub overflow_add-self-5 : goal.overflow_add-self-5
+overflow_add-self-5 c = fits w64 (added c.args.self.now.spin c.args.figures.now.spin c.requires.spin.0 c.requires.spin.1) (lit< tt)
 
 pub returns : goal.returns
 returns c =

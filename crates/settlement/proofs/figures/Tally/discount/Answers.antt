@@ -4,11 +4,11 @@ use Rattle.settlement.proofs.Ranges.{sound}
 use Rattle.settlement.proofs.Volumes.{energy_held, removed}
 use Rattle.settlement.proofs.figures.Tally.discount.Goals as goal
 
-pub overflow-mul-self : goal.overflow-mul-self
-overflow-mul-self c = fits w64 (energy_held c.args.interval.now (sound _ c.requires.fair)) (lit< tt)
+pub overflow_mul-self : goal.overflow_mul-self
+overflow_mul-self c = fits w64 (energy_held c.args.interval.now (sound _ c.requires.fair)) (lit< tt)
 
-pub overflow-sub-self-3 : goal.overflow-sub-self-3
-overflow-sub-self-3 c = fits w64 (removed c.args.self.now.volume c.args.interval.now c.requires.small (sound _ c.requires.fair)) (lit< tt)
+pub overflow_sub-self-3 : goal.overflow_sub-self-3
+overflow_sub-self-3 c = fits w64 (removed c.args.self.now.volume c.args.interval.now c.requires.small (sound _ c.requires.fair)) (lit< tt)
 
 pub returns : goal.returns
 returns c =

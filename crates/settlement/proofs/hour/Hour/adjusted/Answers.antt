@@ -1,4 +1,4 @@
-use Rattle.std.proofs.Common.{◌≡◌, ℕ, ◌*◌, ◌<◌, ◌≤◌, Bool, true, false, cond, ℤ, pos, ◌*ℤ◌, nat_abs, ◌≤ℤ◌, Some, None, sym, refl, ap, ◌∙◌, subst, mul-le-mul, arith, lit<, lit≤, w32, w64, SFits, to_z, of_z, rules}
+use Rattle.std.proofs.Common.{◌≡◌, ℕ, ◌*◌, ◌<◌, ◌≤◌, Bool, true, false, cond, ℤ, pos, ◌*ℤ◌, nat_abs, ◌≤ℤ◌, Some, None, sym, ap, ◌∙◌, mul-le-mul, arith, lit<, lit≤, w32, w64, SFits, to_z, of_z, rules}
 use lib.Signed.{lt_z}
 use borrow.Author.Differences.{ints, true_is_lt, false_is_lt}
 use Rattle.std.proofs.lemmas.Int.{to_z-of_z}
@@ -50,8 +50,8 @@ some_output v p h = sym (true_is_lt (pos 0) v (omega (arith, ints)))
 no_output : (v : ℤ) → nat_abs v ≡ 0 → lt_z (pos 0) v ≡ false
 no_output v e = sym (false_is_lt (pos 0) v (omega (arith, ints)))
 
-pub overflow-mul-average-in-Some-new : goal.overflow-mul-average-in-Some-new
-overflow-mul-average-in-Some-new c =
+pub overflow_mul-average-in-Some-new : goal.overflow_mul-average-in-Some-new
+overflow_mul-average-in-Some-new c =
     let h = c.args.self.now.standing in
     let i = c.args.interval.now in
     let w = within h c.args.self.now.within in
@@ -77,7 +77,7 @@ returns-in-Some-new c =
     let p = reading_metered h m w c.in-Some.is in
     let f : SFits w64 c.args.self.now.counted.volume = search rules in
     let g : d.value ≡ nat_abs (volume h) =
-    c.in-Some-new.ensures ∙ c.unsigned-abs.ensures.value ∙ ap nat_abs (to_z-of_z w64 c.args.self.now.counted.volume f)
+    c.in-Some-new.ensures ∙ c.unsigned_abs.ensures.value ∙ ap nat_abs (to_z-of_z w64 c.args.self.now.counted.volume f)
     ∙ ap (λ (t : Tally). nat_abs t.volume) c.args.self.now.tallied in
     let some = some_output (volume h) (volume_positive h w) (omega (arith, g, d.above_zero)) in
     let n = back w64 (product i.average m s.average.size p.size) (lit< tt) in
@@ -93,7 +93,7 @@ returns-in-None-new c =
     let w = within h c.args.self.now.within in
     let f : SFits w64 c.args.self.now.counted.volume = search rules in
     let g : 0 ≡ nat_abs (volume h) =
-    sym c.in-None-new.ensures ∙ c.unsigned-abs.ensures.value ∙ ap nat_abs (to_z-of_z w64 c.args.self.now.counted.volume f)
+    sym c.in-None-new.ensures ∙ c.unsigned_abs.ensures.value ∙ ap nat_abs (to_z-of_z w64 c.args.self.now.counted.volume f)
     ∙ ap (λ (t : Tally). nat_abs t.volume) c.args.self.now.tallied in
     let r = figure m (reading_metered h m w c.in-Some.is).size in
     record { value = r.is ∙ by_reading h i m false 0 c.in-Some.is (no_output (volume h) (sym g)) g; bound = sized (wider r (lit≤ tt)) }

@@ -1,12 +1,14 @@
-use Rattle.std.proofs.Common.{◌≡◌, ℕ, ◌+◌, ◌*◌, ◌^◌, ◌<◌, ◌≤◌, true, ℤ, ◌+ℤ◌, nat_abs, ap, ◌∙◌, arith, lit<, lit≤, w64, to_z, of_z}
-use Rattle.std.proofs.lemmas.Bool.{and_from}
+use Rattle.std.proofs.Common.{◌≡◌, ◌+◌, ◌*◌, ◌≤◌, true, length, ℤ, ◌+ℤ◌, nat_abs, ap, ◌∙◌, arith, lit<, lit≤, w64, to_z, of_z}
+use Rattle.std.proofs.lemmas.Bool.{and_from, le-leb}
+use Rattle.arithmetic.proofs.Sums.{standing_length}
 use Rattle.arithmetic.proofs.Machine.{Holds, holds, whole, fits, back, plus, wider, sized}
 use Rattle.settlement.specs.declared.figures.Amounts.{Amounts}
 use Rattle.settlement.specs.declared.figures.Standing.{Standing}
 use Rattle.settlement.specs.declared.figures.Sums.{Sums}
 use Rattle.settlement.specs.declared.figures.Tally.{Tally}
 use Rattle.settlement.specs.declared.editions.Sign.{Sign}
-use Rattle.settlement.specs.Bounds.{is_small_line}
+use Rattle.settlement.specs.Standing.{intervals, seconds}
+use Rattle.settlement.specs.Bounds.{is_small_line, is_short_line}
 use Rattle.settlement.specs.Formulas.{state, settled_by, ahead, amounts, line_of}
 use Rattle.settlement.proofs.Ranges.{sold}
 use Rattle.settlement.proofs.Sizing.{Sized, amounts_sized, ahead_sized, small, small_amounts}
@@ -49,6 +51,11 @@ module _ (h : Standing) (s : Sums) (sign : Sign) (w : Within h) (few : Few s) (a
       let g = small_amounts (amounts sign s.energy s.loss s.congestion) (24 * 1206000000000) balanced (lit≤ tt) in
       and_from _ _ (and_from _ _ (and_from _ _ (and_from _ _ e (small s.balance (omega arith))) g) (small s.spin (omega (arith, few.spin)))) (small (line_of sign h s).total (omega (arith, all.size)))
 
+-- No more intervals than slots, in no more seconds than an hour has.
+line_short : (h : Standing) (s : Sums) (sign : Sign) → Within h → length h.records ≡ 24 → is_short_line (line_of sign h s) ≡ true
+line_short h s sign w slots =
+    and_from _ _ (le-leb (length (intervals h)) 24 (omega (arith, standing_length h.records, slots))) (le-leb (seconds h) 3600 w.short)
+
 pub new-balancing-requires : goal.new-balancing-requires
 new-balancing-requires c =
     let s = c.args.sums.now in
@@ -58,20 +65,20 @@ new-balancing-requires c =
       congestion = sized (wider (figure s.congestion c.requires.congestion) (lit≤ tt));
     }
 
-pub overflow-add-result : goal.overflow-add-result
-overflow-add-result c =
+pub overflow_add-result : goal.overflow_add-result
+overflow_add-result c =
     let p = c.requires in
     fits w64 (both c.args.self.now.standing c.args.sums.now c.args.sign (within _ c.args.self.now.within) (record { energy = p.energy; loss = p.loss; congestion = p.congestion; spin = p.spin })
     c.ahead-ahead.result c.new-balancing.result c.ahead-ahead.ensures c.new-balancing.ensures) (lit< tt)
 
-pub overflow-add-result-2 : goal.overflow-add-result-2
-overflow-add-result-2 c =
+pub overflow_add-result-2 : goal.overflow_add-result-2
+overflow_add-result-2 c =
     let p = c.requires in
     fits w64 (all c.args.self.now.standing c.args.sums.now c.args.sign (within _ c.args.self.now.within) (record { energy = p.energy; loss = p.loss; congestion = p.congestion; spin = p.spin })
     c.ahead-ahead.result c.new-balancing.result c.ahead-ahead.ensures c.new-balancing.ensures) (lit< tt)
 
-pub overflow-cast-result : goal.overflow-cast-result
-overflow-cast-result c =
+pub overflow_cast-result : goal.overflow_cast-result
+overflow_cast-result c =
     let h = c.args.self.now in
     let e = ap (λ (t : Tally). t.seconds) h.tallied in
     let l : h.counted.seconds ≤ 3600 = omega (arith, e, (within h.standing h.within).short) in
@@ -88,8 +95,8 @@ returns c =
     let a = c.ahead-ahead.ensures in
     let b = balanced_is h s c.args.sign w few c.ahead-ahead.result c.new-balancing.result a c.new-balancing.ensures in
     let t = back w64 (all h s c.args.sign w few c.ahead-ahead.result c.new-balancing.result a c.new-balancing.ensures) (lit< tt) in
-    let settled : c.match-settled-by.state ≡ state (settled_by h) =
-    elim c.match-settled-by.branch [
+    let settled : c.match-settled_by.state ≡ state (settled_by h) =
+    elim c.match-settled_by.branch [
       | in-Some v ↦ v.state-is ∙ ap state v.in-Some.ensures
       | in-None v ↦ v.state-is ∙ ap state v.in-None.ensures
     ] in
@@ -98,4 +105,8 @@ returns c =
     let counted = hour.tallied in
     let v : _ ≡ line_of c.args.sign h s =
     λ k. record { state = settled k; intervals = (counted k).intervals; seconds = (counted k).seconds; ahead = a k; balance = due.is k; balancing = b k; spin = reserve.is k; total = t.is k } in
-    record { value = v; small = ap is_small_line v ∙ line_small h s c.args.sign w few c.ahead-ahead.result c.new-balancing.result a c.new-balancing.ensures p.balance }
+    record {
+      value = v;
+      small = ap is_small_line v ∙ line_small h s c.args.sign w few c.ahead-ahead.result c.new-balancing.result a c.new-balancing.ensures p.balance;
+      short = ap is_short_line v ∙ line_short h s c.args.sign w hour.slots;
+    }

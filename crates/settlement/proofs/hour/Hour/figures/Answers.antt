@@ -9,5 +9,5 @@ settle-requires g c =
     let at = sym c.in-Some.ensures in
     record {
       one = standing_has h.records c.args.slot c.in-Some.interval (standing_place h.records c.args.slot c.in-Some.interval at) at;
-      row = settling_row h c.in-Some-settled-by.row c.in-Some-settled-by.ensures;
+      row = settling_row h c.in-Some-settled_by.row c.in-Some-settled_by.ensures;
     }

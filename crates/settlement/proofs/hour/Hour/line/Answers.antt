@@ -16,4 +16,5 @@ returns g c =
       shared = shares_reading h;
       sign_free = subst (SignFree e r h) (sym v) (sign_free e r h);
       small = c.close.ensures.small;
+      short = c.close.ensures.short;
     }

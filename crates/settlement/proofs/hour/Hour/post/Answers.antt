@@ -1,4 +1,4 @@
-use Rattle.std.proofs.Common.{◌≡◌, ℕ, ◌+◌, ◌<◌, ◌≤◌, true, false, ltb, leb, length, get_or, Some, None, refl, ap, ◌∙◌, arith, length-set}
+use Rattle.std.proofs.Common.{◌≡◌, ℕ, ◌+◌, ◌<◌, ◌≤◌, true, false, ltb, leb, length, Some, None, refl, ap, ◌∙◌, arith, length-set}
 use Rattle.std.proofs.lemmas.Result.{err_from_is_err_and}
 use Rattle.std.proofs.lemmas.Bool.{lt-ltb, le-leb, lt-leb}
 use Rattle.settlement.specs.declared.figures.Interval.{Interval}
@@ -26,17 +26,17 @@ count-requires c =
     let fair = fair_around h.records k None l (within h hour.within).fair refl in
     let small = tally_small (with_record h k None).records _ (length-set h.records k None ∙ hour.slots) fair c.without-counted.ensures in
     record {
-      fair = (ruled_ok (interval_refusal c.args.interval.now) tt _ c.in-ok-check.ensures).0;
+      fair = (ruled_ok (interval_refusal c.args.interval.now) tt _ c.in_ok-check.ensures).0;
       few = small.few;
       short = small.short;
       small = small.small;
     }
 
-pub returns-in-err-check : goal.returns-in-err-check
-returns-in-err-check c =
+pub returns-in_err-check : goal.returns-in_err-check
+returns-in_err-check c =
     let in_range : ltb c.args.slot 24 ≡ true = lt-ltb c.args.slot 24 c.if-slot-ge24.false in
-    let bad = ruled_err (interval_refusal c.args.interval.now) tt _ c.in-err-check.ensures in
-    let q = err_from_is_err_and c.from-residual.result c.from-residual.ensures.1 in
+    let bad = ruled_err (interval_refusal c.args.interval.now) tt _ c.in_err-check.ensures in
+    let q = err_from_is_err_and c.from_residual.result c.from_residual.ensures.1 in
     record { answer = rw (q.1, q.2, in_range, bad); after = rw (in_range, bad) }
 
 pub returns-then-counted-gt3600 : goal.returns-then-counted-gt3600
@@ -46,23 +46,23 @@ returns-then-counted-gt3600 c =
     let i = c.args.interval.now in
     let a = c.count.ensures in
     let in_range : ltb k 24 ≡ true = lt-ltb k 24 c.if-slot-ge24.false in
-    let fair = (ruled_ok (interval_refusal i) tt _ c.in-ok-check.ensures).0 in
+    let fair = (ruled_ok (interval_refusal i) tt _ c.in_ok-check.ensures).0 in
     let s = counted_seconds h k i _ _ c.without-counted.ensures (record { intervals = a.intervals; seconds = a.seconds; volume = a.volume }) in
     let full : leb (others h k + i.seconds) 3600 ≡ false = lt-leb _ 3600 (omega (arith, s, c.if-counted-gt3600.true)) in
     record { answer = rw (in_range, fair, full); after = rw (in_range, fair, full) }
 
-pub invariant-of-self : goal.invariant-of-self
-invariant-of-self c =
+pub invariant_of-self : goal.invariant_of-self
+invariant_of-self c =
     let hour = c.args.self.now in
     let h = hour.standing in
     let k = c.args.slot in
     let i = c.args.interval.now in
     let a = c.count.ensures in
     let l : k < length h.records = omega (arith, hour.slots, c.if-slot-ge24.false) in
-    let fair = (ruled_ok (interval_refusal i) tt _ c.in-ok-check.ensures).0 in
+    let fair = (ruled_ok (interval_refusal i) tt _ c.in_ok-check.ensures).0 in
     let tallied = slot_filled h.records k l i _ _ c.without-counted.ensures (record { intervals = a.intervals; seconds = a.seconds; volume = a.volume }) in
     let short : seconds (with_record h k (Some i)) ≤ 3600 = omega (arith, ap (λ (t : Tally). t.seconds) tallied, c.if-counted-gt3600.false) in
-    (length-set h.records k (Some i) ∙ hour.slots, (record_within h k (Some i) l hour.within fair short, (tallied, tt)))
+    record { slots = length-set h.records k (Some i) ∙ hour.slots; within = record_within h k (Some i) l hour.within fair short; tallied = tallied }
 
 pub returns : goal.returns
 returns c =
@@ -71,7 +71,7 @@ returns c =
     let i = c.args.interval.now in
     let a = c.count.ensures in
     let in_range : ltb k 24 ≡ true = lt-ltb k 24 c.if-slot-ge24.false in
-    let fair = (ruled_ok (interval_refusal i) tt _ c.in-ok-check.ensures).0 in
+    let fair = (ruled_ok (interval_refusal i) tt _ c.in_ok-check.ensures).0 in
     let s = counted_seconds h k i _ _ c.without-counted.ensures (record { intervals = a.intervals; seconds = a.seconds; volume = a.volume }) in
     let room : leb (others h k + i.seconds) 3600 ≡ true = le-leb _ 3600 (omega (arith, s, c.if-counted-gt3600.false)) in
     record { answer = rw (in_range, fair, room); after = rw (in_range, fair, room) }

@@ -1,14 +1,13 @@
-use Rattle.std.proofs.Common.{◌≡◌, ℕ, ◌≤◌, ℤ, ◌-ℤ◌, nat_abs, sym, ap, ◌∙◌, arith, lit<, lit≤, w32, w64, to_z, of_z}
+use Rattle.std.proofs.Common.{◌≡◌, ℕ, ◌≤◌, ℤ, ◌-ℤ◌, nat_abs, ap, ◌∙◌, arith, lit<, w32, w64, to_z, of_z}
 use Rattle.arithmetic.proofs.Machine.{Holds, holds, whole, back, sized}
-use Rattle.settlement.specs.declared.figures.Interval.{Interval}
 use Rattle.settlement.specs.declared.figures.Limits.{Limits}
 use Rattle.settlement.specs.declared.editions.Sign.{Sign}
 use Rattle.settlement.specs.Editions.{Terms, Lawful}
 use Rattle.settlement.specs.Formulas.{amount, shown}
-use Rattle.settlement.proofs.Ranges.{Sound, Limiting}
+use Rattle.settlement.proofs.Ranges.{Limiting}
 use Rattle.settlement.proofs.Signs.{shown_size}
 use Rattle.settlement.proofs.Terms.{price_held}
-use Rattle.settlement.proofs.Within.{Within, within, row_fair, fair_one, sound_one}
+use Rattle.settlement.proofs.Within.{within, row_fair, fair_one, sound_one}
 use Rattle.settlement.proofs.hour.Hour.settle.Goals as goal
 
 -- A basis of an adjusted energy within its bound is within it too.

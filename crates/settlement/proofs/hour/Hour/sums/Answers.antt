@@ -1,11 +1,9 @@
-use Rattle.std.proofs.Common.{◌≡◌, ◌+◌, ◌<◌, length, sym, ap, ◌∙◌, subst, arith}
+use Rattle.std.proofs.Common.{◌+◌, ◌<◌, length, sym, subst, arith}
 use Rattle.arithmetic.proofs.Sums.{standing_has}
-use Rattle.settlement.specs.declared.figures.Sums.{Sums}
-use Rattle.settlement.specs.Standing.{intervals}
 use Rattle.settlement.proofs.Summing.{Summed, summed_none, summed_empty, summed_more, summed_all}
 use Rattle.settlement.proofs.Within.{within, sound_one}
 use Rattle.settlement.proofs.hour.Hour.sums.Goals as goal
-use Rattle.settlement.proofs.hour.Hour.sums.Goals.{in-Some, in-default}
+use Rattle.settlement.proofs.hour.Hour.sums.Goals.{in-Some, in_default}
 
 pub loop-record-init : goal.loop-record-init
 loop-record-init g c = summed_none (g.E.Edition.terms c.args.edition.now) c.args.region c.args.row.now c.args.self.now.standing
@@ -48,7 +46,7 @@ loop-record-preserved g c =
           (summed_more e c.args.region row h k c.loop-record.sums w.add.new.self i w.settle.result c.loop-record.invariant l w.in-Some.is s.most f.value
           (record { balance = f.balance; energy = f.energy; loss = f.loss; congestion = f.congestion; spin = f.spin })
           (record { balance = a.balance; energy = a.energy; loss = a.loss; congestion = a.congestion; spin = a.spin }))
-      | in-default w ↦ summed_empty e c.args.region row h k _ (subst (Summed e c.args.region row h k) (sym w.sums-is) c.loop-record.invariant) l w.in-default.is
+      | in_default w ↦ summed_empty e c.args.region row h k _ (subst (Summed e c.args.region row h k) (sym w.sums-is) c.loop-record.invariant) l w.in_default.is
     ]
 
 pub returns : goal.returns

@@ -1,4 +1,4 @@
-use Rattle.std.proofs.Common.{◌≡◌, ◌<◌, length, sym, ap, ◌∙◌, arith}
+use Rattle.std.proofs.Common.{◌<◌, length, sym, ap, ◌∙◌, arith}
 use Rattle.std.specs.List.{flat_map}
 use Rattle.std.specs.Option.{option_to_list}
 use Rattle.arithmetic.proofs.Sums.{standing_has}
@@ -32,8 +32,8 @@ returns-in-Some c =
     slot_cleared hour.standing.records c.args.slot l c.in-Some.interval hour.counted c.discount.new.self c.in-Some.is hour.tallied
     (record { intervals = a.intervals; seconds = a.seconds; volume = a.volume })
 
-pub returns-in-default : goal.returns-in-default
-returns-in-default c =
+pub returns-in_default : goal.returns-in_default
+returns-in_default c =
     let hour = c.args.self.now in
     let l : c.args.slot < length hour.standing.records = omega (arith, hour.slots, c.requires) in
-    hour.tallied ∙ ap (λ xs. tally_of (flat_map option_to_list xs)) (sym (slot_empty hour.standing.records c.args.slot l c.in-default.is))
+    hour.tallied ∙ ap (λ xs. tally_of (flat_map option_to_list xs)) (sym (slot_empty hour.standing.records c.args.slot l c.in_default.is))

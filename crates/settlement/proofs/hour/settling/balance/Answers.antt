@@ -18,11 +18,11 @@ module _ (basis : ℤ) (row : Schedule) (i : Interval) (b : nat_abs basis ≤ 12
       (basis -ℤ row.generation -ℤ (i.transactions -ℤ row.transactions)) 1206000000
   due = minus (back w64 beyond (lit< tt)) (back w64 change (lit< tt))
 
-pub overflow-sub-result : goal.overflow-sub-result
-overflow-sub-result c = fits w64 (beyond c.args.basis c.args.row.now c.args.interval.now c.requires.basis (sold _ c.requires.row) (sound _ c.requires.interval)) (lit< tt)
+pub overflow_sub-result : goal.overflow_sub-result
+overflow_sub-result c = fits w64 (beyond c.args.basis c.args.row.now c.args.interval.now c.requires.basis (sold _ c.requires.row) (sound _ c.requires.interval)) (lit< tt)
 
-pub overflow-sub-result-3 : goal.overflow-sub-result-3
-overflow-sub-result-3 c = fits w64 (due c.args.basis c.args.row.now c.args.interval.now c.requires.basis (sold _ c.requires.row) (sound _ c.requires.interval)) (lit< tt)
+pub overflow_sub-result-3 : goal.overflow_sub-result-3
+overflow_sub-result-3 c = fits w64 (due c.args.basis c.args.row.now c.args.interval.now c.requires.basis (sold _ c.requires.row) (sound _ c.requires.interval)) (lit< tt)
 
 pub returns : goal.returns
 returns c =

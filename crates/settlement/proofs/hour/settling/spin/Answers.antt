@@ -1,12 +1,12 @@
-use Rattle.std.proofs.Common.{◌≡◌, ◌≤◌, ℤ, ◌-ℤ◌, nat_abs, ap, ◌∙◌, arith, lit<, lit≤, w32, w64, to_z, of_z}
-use Rattle.arithmetic.proofs.Machine.{Holds, holds, whole, fits, back, minus, wider, sized}
+use Rattle.std.proofs.Common.{◌≡◌, ◌≤◌, ℤ, ◌-ℤ◌, nat_abs, ◌∙◌, lit<, lit≤, w32, w64, to_z, of_z}
+use Rattle.arithmetic.proofs.Machine.{Holds, holds, whole, back, minus, wider, sized}
 use Rattle.settlement.specs.declared.figures.Interval.{Interval}
 use Rattle.settlement.specs.declared.figures.Region.{Region}
 use Rattle.settlement.specs.declared.figures.Region.TheVariants.{East, West}
 use Rattle.settlement.specs.declared.figures.Schedule.{Schedule}
 use Rattle.settlement.specs.Formulas.{amount, spin_price}
 use Rattle.settlement.proofs.Ranges.{Sound, sound, Sold, sold}
-use Rattle.settlement.proofs.Terms.{wide, power_held, price_held}
+use Rattle.settlement.proofs.Terms.{wide, power_held}
 use Rattle.settlement.proofs.hour.settling.spin.Goals as goal
 
 beyond : (row : Schedule) (i : Interval) → Sold row → Sound i → Holds (to_z w64 (of_z w64 (wide i.spin -ℤ wide row.spin))) (i.spin -ℤ row.spin) 1206000000
