@@ -1,10 +1,10 @@
 -- A journal: one entry more.
-use Rattle.std.proofs.Common.{◌≡◌, ℕ, ◌+◌, ◌<◌, ◌≤◌, Bool, true, false, cond, ◌&&◌, eqb, List, length, replicate, Some, None, Option, unwrap_or, sym, refl, ap, ◌∙◌, subst, arith}
+use Rattle.std.proofs.Common.{◌≡◌, ◌+◌, ◌<◌, ◌≤◌, Bool, true, false, cond, ◌&&◌, eqb, List, length, replicate, Some, None, Option, unwrap_or, sym, refl, ap, ◌∙◌, subst, arith}
 use mathlib.Core.Path.{fun_ext}
 use Rattle.settlement.specs.declared.figures.Interval.{Interval}
 use Rattle.record_store.specs.declared.places.Place.{Place}
 use Rattle.record_store.specs.declared.journal.Journal.{Journal}
-use Rattle.record_store.specs.Meaning.{Meaning, fresh, bounded, updated, rewritten}
+use Rattle.record_store.specs.Meaning.{Meaning, fresh, bounded, rewritten}
 use Rattle.record_store.specs.Places.{capacity_of}
 use Rattle.record_store.specs.Shelves.{Contents, contents, held, pushed, Pointed, Covered, Ranged}
 use Rattle.record_store.specs.Journals.{no_entry, journal_means}
@@ -21,15 +21,17 @@ stocked j =
     }
 
 -- The same, as the facts of the type are listed.
-abbrev pub Facts : Contents (Option Interval) → Type 0
-Facts c =
-    (length c.index ≡ 600)
-    × ((c.used ≤ c.capacity)
-    × ((c.capacity ≤ 4096)
-    × ((c.capacity ≤ length c.places) × (Pointed no_entry c × (Covered no_entry c × (Ranged no_entry c × Unit {0}))))))
+pub record Facts (c : Contents (Option Interval)) : Type 0 where
+  pub slots : length c.index ≡ 600
+  pub within : c.used ≤ c.capacity
+  pub small : c.capacity ≤ 4096
+  pub room : c.capacity ≤ length c.places
+  pub pointed : Pointed no_entry c
+  pub covered : Covered no_entry c
+  pub ranged : Ranged no_entry c
 
 pub facts : (c : Contents (Option Interval)) → Stocked no_entry c → Facts c
-facts c k = let s = k.sound in (s.slots, (k.within, (k.small, (k.fits, (s.pointed, (s.covered, (s.ranged, tt)))))))
+facts c k = let s = k.sound in record { slots = s.slots; within = k.within; small = k.small; room = k.fits; pointed = s.pointed; covered = s.covered; ranged = s.ranged }
 
 -- A journal that is as it should be, and what it means.
 pub record Becomes (c : Contents (Option Interval)) (m : Meaning) : Type 0 where

@@ -168,19 +168,21 @@ pooled p =
     }
 
 -- The same, as the facts of the type are listed.
-abbrev pub Facts : Contents Interval → Type 0
-Facts c =
-    (length c.index ≡ 600)
-    × ((c.used ≤ c.capacity)
-    × ((c.capacity ≤ 4096)
-    × ((c.capacity ≤ length c.places)
-    × (Pointed blank c × (Covered blank c × (Ranged blank c × (Once blank c × Unit {0})))))))
+pub record Facts (c : Contents Interval) : Type 0 where
+  pub slots : length c.index ≡ 600
+  pub within : c.used ≤ c.capacity
+  pub small : c.capacity ≤ 4096
+  pub room : c.capacity ≤ length c.places
+  pub pointed : Pointed blank c
+  pub covered : Covered blank c
+  pub ranged : Ranged blank c
+  pub once : Once blank c
 
 pub facts : (c : Contents Interval) → Pooled c → Facts c
 facts c p =
     let k = p.stocked in
     let s = k.sound in
-    (s.slots, (k.within, (k.small, (k.fits, (s.pointed, (s.covered, (s.ranged, (p.once, tt))))))))
+    record { slots = s.slots; within = k.within; small = k.small; room = k.fits; pointed = s.pointed; covered = s.covered; ranged = s.ranged; once = p.once }
 
 -- A pool that is as it should be, and what it means.
 pub record Becomes (c : Contents Interval) (m : Meaning) : Type 0 where

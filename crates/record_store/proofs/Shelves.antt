@@ -1,5 +1,5 @@
 -- What a shelf's index says, and what laying a record changes.
-use Rattle.std.proofs.Common.{◌≡◌, ℕ, zero, suc, ◌+◌, ◌-◌, ◌*◌, ◌<◌, ◌≤◌, Bool, true, false, cond, ◌&&◌, eqb, ltb, ◌≢◌, List, length, get_or, take, set, replicate, Some, None, Option, sym, refl, ap, ◌∙◌, subst, inl, inr, ⊎_elim, add-one, arith}
+use Rattle.std.proofs.Common.{◌≡◌, ℕ, zero, suc, ◌+◌, ◌-◌, ◌<◌, ◌≤◌, Bool, true, false, cond, ◌&&◌, eqb, ltb, List, length, get_or, take, set, replicate, Some, None, Option, sym, refl, ap, ◌∙◌, subst, inl, inr, ⊎_elim, add-one, arith}
 use Rattle.std.specs.Option.{option_map}
 use Rattle.std.proofs.lemmas.List.{get_or-set_same, get_or-set_other, length-set, length-replicate}
 use Rattle.std.proofs.lemmas.List.Sums.{fold_more}
@@ -8,7 +8,7 @@ use Rattle.std.proofs.lemmas.Bool.Decides.{nat_tests}
 use Rattle.record_store.specs.declared.places.Place.{Place}
 use Rattle.record_store.specs.Meaning.{in_range, bounded}
 use Rattle.record_store.specs.Places.{capacity_of, of_slot, noted, latest}
-use Rattle.record_store.specs.Shelves.{Contents, held, key, key_of, named, place_named, found, Located, laid, pushed, dropped, Pointed, Covered, Ranged, Once}
+use Rattle.record_store.specs.Shelves.{Contents, held, key, key_of, named, place_named, found, Located, Pointed, Covered, Ranged}
 
 -- What stands at a place after a write, by cases.
 pub set_by : {X : Type 0} (xs : List X) (k j : ℕ) (v d : X) (P : X → Type 0) → k < length xs → (j ≡ k → P v) → ((j ≡ k → ⊥) → P (get_or xs j d)) → P (get_or (set xs k v) j d)

@@ -1,5 +1,5 @@
 -- What a pool means.
-use Rattle.std.specs.Prelude.{ℕ, ◌≤◌, cond, pos, None}
+use Rattle.std.specs.Prelude.{◌≤◌, cond, pos, None}
 use Rattle.std.proofs.Common.{ap, lit≤}
 use Rattle.settlement.specs.declared.figures.Interval.{Interval}
 use Rattle.record_store.specs.declared.places.Place.{Place}

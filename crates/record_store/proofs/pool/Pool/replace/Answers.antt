@@ -3,11 +3,12 @@ use Rattle.record_store.specs.Shelves.{contents}
 use Rattle.record_store.proofs.Pools.{pooled, facts, replaced}
 use Rattle.record_store.proofs.pool.Pool.replace.Goals as goal
 
-pub invariant-of-self : goal.invariant-of-self
-invariant-of-self c =
+pub invariant_of-self : goal.invariant_of-self
+invariant_of-self c =
     let p = c.args.self.now in
     let new = contents c.lay.new.self in
-    facts new (replaced (contents p.shelf) (pooled p) c.args.at c.args.new new c.requires c.lay.ensures).pooled
+    let f = facts new (replaced (contents p.shelf) (pooled p) c.args.at c.args.new new c.requires c.lay.ensures).pooled in
+    record { slots = f.slots; within = f.within; small = f.small; room = f.room; pointed = f.pointed; covered = f.covered; ranged = f.ranged; once = f.once }
 
 pub returns : goal.returns
 returns c =
