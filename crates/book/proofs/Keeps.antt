@@ -1,10 +1,7 @@
 -- What a call comes to, at the day that the book gives, is what the book gives with the call.
-use Rattle.std.proofs.Common.{◌≡◌, ℕ, ◌<◌, ◌≤◌, Bool, true, false, cond, not, ◌&&◌, eqb, ltb, ◌≢◌, List, [], ◌∷◌, length, get_or, set, ℤ, is_some, Some, None, Option, sym, refl, ap, ◌∙◌, subst, ⊎_elim, arith}
-use mathlib.Core.Path.{fun_ext}
+use Rattle.std.proofs.Common.{◌≡◌, ℕ, ◌<◌, ◌≤◌, Bool, true, false, cond, not, ◌&&◌, eqb, ltb, ◌≢◌, List, ◌∷◌, length, get_or, set, is_some, Some, None, Option, sym, refl, ap, ◌∙◌, ⊎_elim, arith}
 use Rattle.std.proofs.lemmas.Bool.{cases_Bool, ne_eqb, eq-eqb, ltb-true}
 use Rattle.settlement.specs.declared.figures.Interval.{Interval}
-use Rattle.settlement.specs.declared.figures.Schedule.{Schedule}
-use Rattle.settlement.specs.declared.figures.Standing.{Standing}
 use Rattle.settlement.specs.declared.limits.Refusal.{Refusal}
 use Rattle.settlement.specs.declared.limits.Refusal.TheVariants.{Slot, Nothing}
 use Rattle.settlement.specs.Changes.{withdraw_refusal}
@@ -12,8 +9,7 @@ use Rattle.settlement.specs.Formulas.{figures_at}
 use Rattle.settlement.specs.Limits.{records_refusal}
 use Rattle.settlement.specs.Rulings.{unless, first, ruled, changed}
 use Rattle.settlement.proofs.Rulings.{passed, neither}
-use Rattle.record_store.specs.Meaning.{Meaning, hour_records, emptied}
-use Rattle.book.specs.declared.calls.Answer.{Answer}
+use Rattle.record_store.specs.Meaning.{hour_records, emptied}
 use Rattle.book.specs.declared.calls.Answer.TheVariants.{Done, Line, Figures}
 use Rattle.book.specs.declared.calls.Call.{Call}
 use Rattle.book.specs.declared.calls.Call.TheVariants.{Make, AskHour, AskInterval, AskDay}
@@ -24,7 +20,7 @@ use Rattle.book.specs.declared.faults.Fault.TheVariants.{BadRecords, NoHour}
 use Rattle.book.specs.declared.figures.Row.{Row}
 use Rattle.book.specs.Lines.{row_of, rows_of, table_of, no_row}
 use Rattle.book.specs.Outcome.{Account, hour_of, slot_of, with_change, stored, hour_refuses, store_refuses, placed, passed_on, outside, unfit, refusal, at_place, judged, as_answer, answer, view, standing, made, after}
-use Rattle.book.specs.Book.{Opening, stands, scheduled, was_read, spent_by, store_by, standing_by, row_by, book, accept}
+use Rattle.book.specs.Book.{Opening, stands, scheduled, was_read, store_by, standing_by, row_by, book, accept}
 use Rattle.book.proofs.Rows as rows
 
 -- The day that the book gives.

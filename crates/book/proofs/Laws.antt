@@ -1,19 +1,18 @@
 -- A day that keeps the book is the day that the book gives; so every list of calls goes through the gate.
 use Rattle.std.proofs.Common.{◌≡◌, ℕ, ◌<◌, ◌≤◌, List, [], ◌∷◌, length, get_or, Result, sym, refl, ap, ◌∙◌, subst, arith}
 use mathlib.Core.Path.{fun_ext}
-use Rattle.settlement.specs.Editions.{Terms, Lawful}
+use Rattle.settlement.specs.Editions.{Lawful}
 use Rattle.settlement.specs.Nearness.{NearWhereSettled}
-use Rattle.settlement.specs.declared.figures.HourLine.{HourLine}
 use Rattle.settlement.proofs.Nearness.{near_line, shares_reading}
 use Rattle.book.specs.declared.calls.Answer.{Answer}
 use Rattle.book.specs.declared.calls.Call.{Call}
 use Rattle.book.specs.declared.calls.Change.{Change}
 use Rattle.book.specs.declared.faults.Fault.{Fault}
 use Rattle.book.specs.declared.figures.Row.{Row}
-use Rattle.book.specs.Lines.{rows_of, no_row, row_at}
-use Rattle.book.specs.Outcome.{Account, view, answer, after, Goes, all_answers, after_all}
+use Rattle.book.specs.Lines.{rows_of, no_row}
+use Rattle.book.specs.Outcome.{Account, answer, after, Goes, all_answers, after_all}
 use Rattle.book.specs.Book.{Opening, standing_by, row_by, book, accept, accepted, answers}
-use Rattle.book.specs.Gate.{Kept, Gate, Law, Gated, GatedAll}
+use Rattle.book.specs.Gate.{Kept, Law, Gated, GatedAll}
 use Rattle.book.proofs.Rows as rows
 use Rattle.book.proofs.Keeps.{account_by, row_is, answer_is, after_is}
 

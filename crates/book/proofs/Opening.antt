@@ -1,11 +1,10 @@
 -- A day that is opened over an empty store keeps the book of no change.
-use Rattle.std.proofs.Common.{◌≡◌, ℕ, ◌<◌, ◌≤◌, Bool, true, false, cond, ◌&&◌, ltb, List, [], length, get_or, is_some, Some, None, sum_by, count_by, Option, sym, refl, ap, ◌∙◌, ⊎_elim, arith}
+use Rattle.std.proofs.Common.{◌≡◌, ℕ, ◌<◌, ◌≤◌, cond, ltb, [], length, get_or, is_some, Some, None, count_by, Option, sym, refl, ap, ◌∙◌, ⊎_elim, arith}
 use mathlib.Core.Path.{fun_ext}
 use Rattle.std.specs.List.{range_with_len}
 use Rattle.std.proofs.lemmas.List.FromFn.{length-range_with_len, get_or-range_with_len}
 use Rattle.std.proofs.lemmas.List.Sums.{get_or-le-sum_by}
 use Rattle.std.proofs.lemmas.Bool.{cases_Bool, and_parts, ltb-true, le-leb}
-use Rattle.arithmetic.specs.Sums.{sum_ℤ}
 use Rattle.settlement.specs.declared.editions.Sign.{Sign}
 use Rattle.settlement.specs.declared.editions.Sign.TheVariants.{Plus, Minus}
 use Rattle.settlement.specs.declared.figures.Interval.{Interval}
@@ -14,14 +13,11 @@ use Rattle.settlement.specs.Editions.{Terms, Lawful}
 use Rattle.settlement.specs.Formulas.{line_of, no_sums}
 use Rattle.settlement.proofs.Rulings.{none}
 use Rattle.record_store.specs.Meaning.{Meaning, hour_records, in_range, Lawful as LawfulStore}
-use Rattle.book.specs.declared.calls.Change.{Change}
-use Rattle.book.specs.declared.figures.Row.{Row}
 use Rattle.book.specs.declared.figures.Table.{Table}
 use Rattle.book.specs.Lines.{row_of, rows_of, table_of, no_row}
-use Rattle.book.specs.Outcome.{Account}
-use Rattle.book.specs.Book.{Opening, stands, standing_by, row_by, store_by}
+use Rattle.book.specs.Book.{standing_by}
 use Rattle.book.specs.Gate.{count, region_of, region_refusal, opening, Opened}
-use Rattle.book.proofs.Keeps.{account_by, record_is, hour_long}
+use Rattle.book.proofs.Keeps.{record_is, hour_long}
 use Rattle.book.proofs.Laws.{kept_by}
 
 -- Where nothing is counted nothing stands.
