@@ -11,16 +11,22 @@ use Rattle.book.specs.declared.calls.Answer.TheVariants.{Line, Figures}
 use Rattle.book.specs.declared.calls.Call.TheVariants.{AskHour, AskInterval}
 use Rattle.book.specs.declared.faults.Fault.{Fault}
 use Rattle.book.specs.declared.faults.Fault.TheVariants.{NoHour}
+use Rattle.book.specs.declared.figures.Row.{Row}
 use Rattle.book.specs.Lines.{row_at}
 use Rattle.book.specs.Outcome.{Account, unfit, judged, at_place, as_answer, view, standing}
 use Rattle.book.specs.Gate.{Gated}
 use Rattle.book.proofs.Laws.{Formed, gated}
 
 module _ (a : Account) (formed : Formed a) (hour : ℕ) where
-  pub line_told : hour < a.table.hours → Gated a (AskHour hour) (Ok (Line (row_at a.table hour).line)) a
-  line_told l =
+  pub line_told : (r : Row) → r ≡ row_at a.table hour → hour < a.table.hours → Gated a (AskHour hour) (Ok (Line r.line)) a
+  line_told r read l =
       gated a (AskHour hour) _ a formed
-      (record { answer = ap (λ b. ruled (unless b (NoHour hour 0) None) (Line (row_at a.table hour).line)) (sym (lt-ltb hour a.table.hours l)); after = refl })
+      (record {
+        answer =
+            ap (λ (r : Row). Ok (Line r.line)) read
+            ∙ ap (λ b. ruled (unless b (NoHour hour 0) None) (Line (row_at a.table hour).line)) (sym (lt-ltb hour a.table.hours l));
+        after = refl;
+      })
 
   pub line_refused : a.table.hours ≤ hour → Gated a (AskHour hour) (Err (NoHour hour 0)) a
   line_refused l =

@@ -1,14 +1,14 @@
 -- The table of a day for which nothing stands.
-use Rattle.std.proofs.Common.{◌≡◌, ℕ, zero, suc, ◌<◌, ◌≤◌, true, false, List, length, get_or, replicate, is_some, sym, refl, ap, ◌∙◌, subst, ⊎_elim, arith, lit≤}
+use Rattle.std.proofs.Common.{◌≡◌, ℕ, ◌≤◌, true, false, List, length, get_or, replicate, is_some, sym, refl, ap, ◌∙◌, subst, ⊎_elim, arith, lit≤}
 use Rattle.std.proofs.lemmas.List.{get_or_past}
 use Rattle.std.proofs.lemmas.Bool.{cases_lt}
 use Rattle.settlement.specs.declared.figures.Region.{Region}
-use Rattle.settlement.specs.Bounds.{is_small_line}
 use Rattle.book.specs.declared.figures.DayLine.{DayLine}
 use Rattle.book.specs.declared.figures.Row.{Row}
 use Rattle.book.specs.declared.figures.Table.{Table}
 use Rattle.book.specs.Lines.{day_of, rows_of, table_of, no_row, row_at, row_refusal}
 use Rattle.book.proofs.Keeps.{row_is}
+use Rattle.statement.specs.Days.{is_day_part}
 use Rattle.statement.proofs.Summing.{Tame}
 
 pub blank_rows : (r : Row) → r ≡ no_row → replicate 25 r ≡ rows_of (λ _. no_row)
@@ -40,7 +40,7 @@ pub record Blank (t : Table) (hours : ℕ) : Type 0 where
   pub rows : length t.rows ≡ 25
   pub within : (h : ℕ) → is_some (row_refusal (row_at t h)) ≡ false
   pub short : (h : ℕ) → (row_at t h).line.seconds ≤ 3600
-  pub small : (h : ℕ) → is_small_line (row_at t h).line ≡ true
+  pub small : (h : ℕ) → is_day_part (row_at t h).line ≡ true
   pub added : t ≡ table_of t.hours t.region t.rows
 
 pub blank_facts : (t : Table) (hours : ℕ) (region : Region) → t ≡ table_of hours region (rows_of (λ _. no_row)) → Blank t hours

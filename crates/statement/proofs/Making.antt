@@ -1,5 +1,5 @@
 -- A change that is refused, at each of the places where it can be, and one that is made.
-use Rattle.std.proofs.Common.{◌≡◌, ℕ, IsErrAnd, Some, None, Ok, Err, Option, Result, sym, refl, ap, ◌∙◌, subst, arith}
+use Rattle.std.proofs.Common.{◌≡◌, ℕ, IsErrAnd, Some, None, Ok, Err, Option, Result, sym, refl, ap, ◌∙◌, arith}
 use Rattle.std.proofs.lemmas.Result.{err_from_is_err_and}
 use Rattle.settlement.specs.declared.figures.Standing.{Standing}
 use Rattle.settlement.specs.declared.limits.Refusal.{Refusal}
@@ -15,7 +15,7 @@ use Rattle.book.specs.declared.faults.Fault.{Fault}
 use Rattle.book.specs.declared.faults.Fault.TheVariants.{InStore}
 use Rattle.book.specs.declared.figures.Table.{Table}
 use Rattle.book.specs.Lines.{row_of, rewritten}
-use Rattle.book.specs.Outcome.{Account, hour_of, slot_of, with_change, stored, hour_refuses, store_refuses, placed, passed_on, unfit, refusal, at_place, view, standing, made, Goes, done}
+use Rattle.book.specs.Outcome.{Account, hour_of, slot_of, with_change, stored, hour_refuses, store_refuses, placed, passed_on, unfit, refusal, at_place, view, standing, made, done}
 use Rattle.book.specs.Gate.{Gated}
 use Rattle.book.proofs.Laws.{Formed, gated}
 

@@ -1,10 +1,10 @@
 -- A log that is run, entry after entry: what is answered with what is left to do is what the whole log asks.
-use Rattle.std.proofs.Common.{◌≡◌, ℕ, ◌+◌, ◌<◌, ◌≤◌, List, [], ◌∷◌, ◌++◌, map, length, get_or, take, drop, set, Result, sym, refl, ap, ◌∙◌, subst, arith}
+use Rattle.std.proofs.Common.{◌≡◌, ℕ, ◌+◌, ◌<◌, ◌≤◌, List, [], ◌∷◌, ◌++◌, length, get_or, take, drop, set, Result, sym, refl, ap, ◌∙◌, arith}
 use Rattle.std.proofs.lemmas.List.{append-nil, append_assoc, take_all, drop_all, take_more_set, drop-set-lt, drop_more, map_push, map-set, set-get_or, get_or-map}
 use Rattle.book.specs.declared.calls.Answer.{Answer}
 use Rattle.book.specs.declared.calls.Entry.{Entry}
 use Rattle.book.specs.declared.faults.Fault.{Fault}
-use Rattle.book.specs.Outcome.{Account, view, answer, after, Goes, all_answers, after_all}
+use Rattle.book.specs.Outcome.{Account, Goes, all_answers, after_all}
 use Rattle.statement.specs.Logs.{calls, answers}
 
 pub record Running (a₀ : Account) (log₀ : List Entry) (a : Account) (log : List Entry) (i : ℕ) : Type 0 where

@@ -1,7 +1,7 @@
 -- The line of a day, summed row after row.
-use Rattle.std.proofs.Common.{◌≡◌, ℕ, ◌+◌, ◌*◌, ◌^◌, ◌<◌, ◌≤◌, Bool, true, ◌&&◌, leb, List, [], ◌∷◌, ◌++◌, length, get_or, take, ℤ, ◌+ℤ◌, nat_abs, sum_by, sym, refl, ap, ◌∙◌, subst, mul-le-mul_right, arith, lit<, lit≤, w64, to_z, of_z}
+use Rattle.std.proofs.Common.{◌≡◌, ℕ, ◌+◌, ◌*◌, ◌^◌, ◌<◌, ◌≤◌, true, ◌&&◌, leb, List, [], ◌∷◌, ◌++◌, length, get_or, take, ℤ, pos, ◌+ℤ◌, None, nat_abs, sum_by, sym, ap, ◌∙◌, subst, mul-le-mul_right, arith, lit<, lit≤, w64, to_z, of_z}
 use Rattle.std.specs.List.{AllByRecursion as All}
-use Rattle.std.proofs.lemmas.List.{take_more, get_or-take, length-take}
+use Rattle.std.proofs.lemmas.List.{take_more, get_or-take, get_or_default, length-take}
 use Rattle.std.proofs.ByRecursion.{All-weaker, All-from_get_or, sum_by_le}
 use Rattle.std.proofs.lemmas.List.Sums.{sum_by_push}
 use Rattle.std.proofs.lemmas.Bool.{and_parts, leb-true}
@@ -10,13 +10,13 @@ use Rattle.arithmetic.proofs.Machine.{Holds, holds, whole, back, plus}
 use Rattle.arithmetic.proofs.Sums.{sum_ℤ-push, sum_ℤ_size}
 use Rattle.settlement.specs.declared.figures.Amounts.{Amounts}
 use Rattle.settlement.specs.declared.figures.HourLine.{HourLine}
-use Rattle.settlement.specs.Bounds.{is_small, is_small_amounts, is_small_line}
+use Rattle.settlement.specs.Bounds.{is_small, is_small_amounts, is_small_line, is_short_line}
 use Rattle.book.specs.declared.figures.DayLine.{DayLine}
 use Rattle.book.specs.declared.figures.Row.{Row}
 use Rattle.settlement.specs.declared.figures.State.{State}
 use Rattle.settlement.specs.declared.figures.State.TheVariants.{Unsettled, Settled}
 use Rattle.book.specs.Lines.{settled_one, amounts_of, day_of, no_row}
-use Rattle.statement.specs.Days.{AmountsRoom, DayRoom, amounts_plus, day_plus}
+use Rattle.statement.specs.Days.{is_day_part, AmountsRoom, DayRoom, amounts_plus, day_plus}
 
 -- The parts of a small line.
 pub record SmallAmounts (a : Amounts) : Type 0 where
@@ -41,18 +41,18 @@ pub record SmallLine (l : HourLine) : Type 0 where
   pub spin : nat_abs l.spin ≤ 2 ^ 47
   pub total : nat_abs l.total ≤ 2 ^ 47
 
-pub small_line : (l : HourLine) → is_small_line l ≡ true → SmallLine l
+pub small_line : (l : HourLine) → is_day_part l ≡ true → SmallLine l
 small_line l e =
-    let p = and_parts _ (is_small l.total) e in
+    let both = and_parts (is_short_line l) (is_small_line l) e in
+    let u = and_parts (leb l.intervals 24) (leb l.seconds 3600) both.0 in
+    let p = and_parts _ (is_small l.total) both.1 in
     let q = and_parts _ (is_small l.spin) p.0 in
     let r = and_parts _ (is_small_amounts l.balancing) q.0 in
-    let s = and_parts _ (is_small l.balance) r.0 in
-    let t = and_parts _ (is_small_amounts l.ahead) s.0 in
-    let u = and_parts (leb l.intervals 24) (leb l.seconds 3600) t.0 in
+    let s = and_parts (is_small_amounts l.ahead) (is_small l.balance) r.0 in
     record {
       intervals = leb-true _ _ u.0;
       seconds = leb-true _ _ u.1;
-      ahead = t.1;
+      ahead = s.0;
       balance = leb-true _ _ s.1;
       balancing = r.1;
       spin = leb-true _ _ q.1;
@@ -71,7 +71,7 @@ plus_is r a b h k e = let p = plus (summed a h) (figure b k) in (back w64 (holds
 
 -- The line of a row is small, and so is the line of as many rows as a day can have before its last.
 abbrev pub Tame : Row → Type 0
-Tame r = is_small_line r.line ≡ true
+Tame r = is_day_part r.line ≡ true
 
 module _ (rows : List Row) (few : length rows ≤ 24) where
   sum_room : (f : Row → ℤ) → All (λ r. nat_abs (f r) ≤ 2 ^ 47) rows → nat_abs (sum_ℤ f rows) ≤ 24 * 2 ^ 47
@@ -113,6 +113,28 @@ rows_room rows k d l few all e =
     (day_room (take k rows) (omega arith)
     (All-from_get_or Tame (take k rows) no_row (λ i inside. subst Tame (sym (get_or-take k rows i no_row (omega arith))) (all i))))
 
+-- A row as the code reads it: past the end it would read zeros.
+abbrev pub zero_row : Row
+zero_row =
+    record {
+      schedule = None;
+      reading = None;
+      line =
+          record {
+            state = Settled;
+            intervals = 0;
+            seconds = 0;
+            ahead = record { energy = pos 0; loss = pos 0; congestion = pos 0; total = pos 0 };
+            balance = pos 0;
+            balancing = record { energy = pos 0; loss = pos 0; congestion = pos 0; total = pos 0 };
+            spin = pos 0;
+            total = pos 0;
+          };
+    }
+
+pub row_read : (rows : List Row) (k : ℕ) → k < length rows → get_or rows k zero_row ≡ get_or rows k no_row
+row_read rows k l = get_or_default rows k zero_row no_row l
+
 -- One row more.
 amounts_push : (f : Row → Amounts) (rows : List Row) (r : Row) → amounts_of f (rows ++ r ∷ []) ≡ amounts_plus (amounts_of f rows) (f r)
 amounts_push f rows r =
@@ -136,6 +158,7 @@ day_push rows r =
       total = sum_ℤ-push (λ r. r.line.total) rows r i;
     }
 
-pub day_more : (rows : List Row) (k : ℕ) (d : DayLine) → k < length rows → d ≡ day_of (take k rows) → day_plus d (get_or rows k no_row).line ≡ day_of (take (k + 1) rows)
+pub day_more : (rows : List Row) (k : ℕ) (d : DayLine) → k < length rows → d ≡ day_of (take k rows) → day_plus d (get_or rows k zero_row).line ≡ day_of (take (k + 1) rows)
 day_more rows k d l e =
-    ap (λ (d : DayLine). day_plus d (get_or rows k no_row).line) e ∙ sym (ap day_of (take_more rows k no_row l) ∙ day_push (take k rows) (get_or rows k no_row))
+    ap (λ (r : Row). day_plus d r.line) (row_read rows k l)
+    ∙ ap (λ (d : DayLine). day_plus d (get_or rows k no_row).line) e ∙ sym (ap day_of (take_more rows k no_row l) ∙ day_push (take k rows) (get_or rows k no_row))

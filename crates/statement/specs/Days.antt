@@ -1,9 +1,14 @@
 -- Adding up the lines of a day.
-use Rattle.std.specs.Prelude.{ℕ, ◌+◌, ◌*◌, ◌^◌, ◌≤◌, ◌+ℤ◌, unsigned_abs}
+use Rattle.std.specs.Prelude.{ℕ, ◌+◌, ◌*◌, ◌^◌, ◌≤◌, Bool, ◌&&◌, ◌+ℤ◌, unsigned_abs}
 use Rattle.settlement.specs.declared.figures.Amounts.{Amounts}
 use Rattle.settlement.specs.declared.figures.HourLine.{HourLine}
+use Rattle.settlement.specs.Bounds.{is_small_line, is_short_line}
 use Rattle.book.specs.declared.figures.DayLine.{DayLine}
 use Rattle.book.specs.Lines.{settled_one}
+
+-- A line that a day has room for: of no more intervals and seconds than an hour has, and of small figures.
+abbrev pub is_day_part : HourLine → Bool
+is_day_part l = is_short_line l && is_small_line l
 
 -- Amounts no larger than those of n hours can be.
 pub record AmountsRoom (a : Amounts) (n : ℕ) : Type 0 where

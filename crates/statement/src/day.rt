@@ -1,8 +1,8 @@
 // The line of a day, added up from its rows.
 ghost use Rattle.std.specs.Prelude.{◌≡◌, ℕ, ◌+◌, ◌*◌, ◌^◌, ◌≤◌, true, ◌+ℤ◌, slice_index_or, unsigned_abs};
-ghost use Rattle.settlement.specs.Bounds.{is_small_amounts, is_small_line};
+ghost use Rattle.settlement.specs.Bounds.{is_small_amounts};
 ghost use Rattle.book.specs.Lines.{settled_one, day_of, no_row};
-ghost use Rattle.statement.specs.Days.{AmountsRoom, DayRoom, amounts_plus, day_plus};
+ghost use Rattle.statement.specs.Days.{is_day_part, AmountsRoom, DayRoom, amounts_plus, day_plus};
 
 use book::{DayLine, Row};
 use settlement::{Amounts, HourLine, State};
@@ -42,7 +42,7 @@ fn settled_one(state: State) -> u8
 // One hour more. There is room for those of the longest day.
 fn plus_line(day: &DayLine, line: &HourLine) -> DayLine
     requires day { DayRoom day.now 24 }
-    requires line { is_small_line line.now ≡ true }
+    requires line { is_day_part line.now ≡ true }
     ensures { result ≡ day_plus day.now line.now }
 {
     DayLine {
@@ -66,7 +66,7 @@ const NOTHING: Amounts = Amounts {
 
 // The line of the day that has these rows.
 pub(crate) fn added_up(rows: &[Row; 25]) -> DayLine
-    requires { (h : ℕ) → is_small_line (slice_index_or rows.now h no_row).line ≡ true }
+    requires { (h : ℕ) → is_day_part (slice_index_or rows.now h no_row).line ≡ true }
     ensures { result ≡ day_of rows.now }
 {
     let mut day = DayLine {

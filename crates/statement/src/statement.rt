@@ -6,8 +6,8 @@ mod questions;
 mod rows;
 
 ghost use Rattle.std.specs.Prelude.{◌≡◌, ℕ, ◌≤◌, true, false, length, is_some};
-ghost use Rattle.settlement.specs.Bounds.{is_small_line};
 ghost use Rattle.book.specs.Lines.{table_of, row_at, row_refusal};
+ghost use Rattle.statement.specs.Days.{is_day_part};
 
 use book::Table;
 
@@ -21,6 +21,6 @@ pub struct Statement<E> {
     ghost rows: { length table.rows ≡ 25 },
     ghost within: { (h : ℕ) → is_some (row_refusal (row_at table h)) ≡ false },
     ghost short: { (h : ℕ) → (row_at table h).line.seconds ≤ 3600 },
-    ghost small: { (h : ℕ) → is_small_line (row_at table h).line ≡ true },
+    ghost small: { (h : ℕ) → is_day_part (row_at table h).line ≡ true },
     ghost added: { table ≡ table_of table.hours table.region table.rows },
 }

@@ -1,4 +1,3 @@
-use Rattle.std.proofs.Common.{◌≡◌}
 use Rattle.arithmetic.proofs.Machine.{sized}
 use Rattle.statement.proofs.Summing.{small_amounts, summed, figure, plus_is}
 use Rattle.statement.proofs.day.plus_amounts.Goals as goal

@@ -3,15 +3,15 @@ use Rattle.arithmetic.proofs.Machine.{sized}
 use Rattle.statement.proofs.Summing.{small_line, summed, figure, plus_is}
 use Rattle.statement.proofs.day.plus_line.Goals as goal
 
-pub plus-amounts-requires : goal.plus-amounts-requires
-plus-amounts-requires c = record { sum = c.requires.day.ahead; amounts = (small_line c.args.line.now c.requires.line).ahead }
+pub plus_amounts-requires : goal.plus_amounts-requires
+plus_amounts-requires c = record { sum = c.requires.day.ahead; amounts = (small_line c.args.line.now c.requires.line).ahead }
 
 pub plus-requires : goal.plus-requires
 plus-requires c =
     record { sum = sized (summed c.args.day.now.balance c.requires.day.balance); figure = sized (figure c.args.line.now.balance (small_line c.args.line.now c.requires.line).balance) }
 
-pub plus-amounts-requires-2 : goal.plus-amounts-requires-2
-plus-amounts-requires-2 c = record { sum = c.requires.day.balancing; amounts = (small_line c.args.line.now c.requires.line).balancing }
+pub plus_amounts-requires-2 : goal.plus_amounts-requires-2
+plus_amounts-requires-2 c = record { sum = c.requires.day.balancing; amounts = (small_line c.args.line.now c.requires.line).balancing }
 
 pub plus-requires-2 : goal.plus-requires-2
 plus-requires-2 c =
@@ -27,9 +27,9 @@ returns c =
     let l = c.args.line.now in
     let small = small_line l c.requires.line in
     let settled = c.settled_one.ensures.is in
-    let ahead = c.plus-amounts.ensures in
+    let ahead = c.plus_amounts.ensures in
     let balance = plus_is c.plus.result d.balance l.balance c.requires.day.balance small.balance c.plus.ensures in
-    let balancing = c.plus-amounts-2.ensures in
+    let balancing = c.plus_amounts-2.ensures in
     let spin = plus_is c.plus-2.result d.spin l.spin c.requires.day.spin small.spin c.plus-2.ensures in
     let total = plus_is c.plus-3.result d.total l.total c.requires.day.total small.total c.plus-3.ensures in
     λ i. record {

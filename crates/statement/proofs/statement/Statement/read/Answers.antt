@@ -6,28 +6,28 @@ use Rattle.statement.proofs.Forming.{formed}
 use Rattle.statement.proofs.Making.{stops_unfit, stops_hour, goes_through}
 use Rattle.statement.proofs.statement.Statement.read.Goals as goal
 
-pub returns-in-err-standing : goal.returns-in-err-standing
-returns-in-err-standing g c =
+pub returns-in_err-standing : goal.returns-in_err-standing
+returns-in_err-standing g c =
     let a = account g.E.Edition g.S.Store c.args.self.now c.args.store.now in
     let change = Read c.args.hour c.args.kwh in
-    stops_unfit a change (formed g.E.Edition c.args.self.now _ (g.met.E.Edition.lawful _)) _ _ c.from-residual.ensures.1 c.in-err-standing.ensures
+    stops_unfit a change (formed g.E.Edition c.args.self.now _ (g.met.E.Edition.lawful _)) _ _ c.from_residual.ensures.1 c.in_err-standing.ensures
 
-pub returns-in-err-placed : goal.returns-in-err-placed
-returns-in-err-placed g c =
+pub returns-in_err-placed : goal.returns-in_err-placed
+returns-in_err-placed g c =
     let a = account g.E.Edition g.S.Store c.args.self.now c.args.store.now in
     let change = Read c.args.hour c.args.kwh in
-    let h = c.in-ok-standing.ensures in
+    let h = c.in_ok-standing.ensures in
     let f : SFits w32 c.args.kwh = c.ranges.kwh in
     let answer = simp to_z-of_z at c.read.ensures.answer in
-    stops_hour a change (formed g.E.Edition c.args.self.now _ (g.met.E.Edition.lawful _)) h.0 _ h.1 _ answer _ _ c.from-residual-in-err-placed.ensures.1 c.in-err-placed.ensures
+    stops_hour a change (formed g.E.Edition c.args.self.now _ (g.met.E.Edition.lawful _)) h.0 _ h.1 _ answer _ _ c.from_residual-in_err-placed.ensures.1 c.in_err-placed.ensures
 
 pub returns : goal.returns
 returns g c =
     let a = account g.E.Edition g.S.Store c.args.self.now c.args.store.now in
     let change = Read c.args.hour c.args.kwh in
-    let h = c.in-ok-standing.ensures in
+    let h = c.in_ok-standing.ensures in
     let f : SFits w32 c.args.kwh = c.ranges.kwh in
     let answer = simp to_z-of_z at c.read.ensures.answer in
     let changes = simp to_z-of_z at c.read.ensures.after in
-    goes_through a change (formed g.E.Edition c.args.self.now _ (g.met.E.Edition.lawful _)) h.0 _ h.1 _ answer _ c.in-ok-placed.ensures _ _ _ _ _
+    goes_through a change (formed g.E.Edition c.args.self.now _ (g.met.E.Edition.lawful _)) h.0 _ h.1 _ answer _ c.in_ok-placed.ensures _ _ _ _ _
     changes refl refl (ap g.E.Edition.terms c.settle.ensures.edition) c.settle.ensures.table

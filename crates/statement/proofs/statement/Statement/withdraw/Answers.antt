@@ -5,31 +5,31 @@ use Rattle.statement.proofs.Forming.{formed}
 use Rattle.statement.proofs.Making.{stops_unfit, stops_hour, stops_store, goes_through}
 use Rattle.statement.proofs.statement.Statement.withdraw.Goals as goal
 
-pub returns-in-err-standing : goal.returns-in-err-standing
-returns-in-err-standing g c =
+pub returns-in_err-standing : goal.returns-in_err-standing
+returns-in_err-standing g c =
     let a = account g.E.Edition g.S.Store c.args.self.now c.args.store.now in
     let change = Withdrawn c.args.hour c.args.slot in
-    stops_unfit a change (formed g.E.Edition c.args.self.now _ (g.met.E.Edition.lawful _)) _ _ c.from-residual.ensures.1 c.in-err-standing.ensures
+    stops_unfit a change (formed g.E.Edition c.args.self.now _ (g.met.E.Edition.lawful _)) _ _ c.from_residual.ensures.1 c.in_err-standing.ensures
 
-pub returns-in-err-placed : goal.returns-in-err-placed
-returns-in-err-placed g c =
+pub returns-in_err-placed : goal.returns-in_err-placed
+returns-in_err-placed g c =
     let a = account g.E.Edition g.S.Store c.args.self.now c.args.store.now in
     let change = Withdrawn c.args.hour c.args.slot in
-    let h = c.in-ok-standing.ensures in
-    stops_hour a change (formed g.E.Edition c.args.self.now _ (g.met.E.Edition.lawful _)) h.0 _ h.1 _ c.withdraw.ensures.answer _ _ c.from-residual-in-err-placed.ensures.1 c.in-err-placed.ensures
+    let h = c.in_ok-standing.ensures in
+    stops_hour a change (formed g.E.Edition c.args.self.now _ (g.met.E.Edition.lawful _)) h.0 _ h.1 _ c.withdraw.ensures.answer _ _ c.from_residual-in_err-placed.ensures.1 c.in_err-placed.ensures
 
-pub returns-in-err-take : goal.returns-in-err-take
-returns-in-err-take g c =
+pub returns-in_err-take : goal.returns-in_err-take
+returns-in_err-take g c =
     let a = account g.E.Edition g.S.Store c.args.self.now c.args.store.now in
     let change = Withdrawn c.args.hour c.args.slot in
-    let h = c.in-ok-standing.ensures in
-    stops_store a change (formed g.E.Edition c.args.self.now _ (g.met.E.Edition.lawful _)) h.0 _ h.1 _ c.withdraw.ensures.answer _ c.in-ok-placed.ensures _ _ _ c.from-residual-in-err-take.ensures.1
-    c.in-err-take.ensures.answer c.take.ensures.after
+    let h = c.in_ok-standing.ensures in
+    stops_store a change (formed g.E.Edition c.args.self.now _ (g.met.E.Edition.lawful _)) h.0 _ h.1 _ c.withdraw.ensures.answer _ c.in_ok-placed.ensures _ _ _ c.from_residual-in_err-take.ensures.1
+    c.in_err-take.ensures.answer c.take.ensures.after
 
 pub returns : goal.returns
 returns g c =
     let a = account g.E.Edition g.S.Store c.args.self.now c.args.store.now in
     let change = Withdrawn c.args.hour c.args.slot in
-    let h = c.in-ok-standing.ensures in
-    goes_through a change (formed g.E.Edition c.args.self.now _ (g.met.E.Edition.lawful _)) h.0 _ h.1 _ c.withdraw.ensures.answer _ c.in-ok-placed.ensures _ _ _ _ _
-    c.withdraw.ensures.after c.in-ok-take.ensures.answer c.take.ensures.after (ap g.E.Edition.terms c.settle.ensures.edition) c.settle.ensures.table
+    let h = c.in_ok-standing.ensures in
+    goes_through a change (formed g.E.Edition c.args.self.now _ (g.met.E.Edition.lawful _)) h.0 _ h.1 _ c.withdraw.ensures.answer _ c.in_ok-placed.ensures _ _ _ _ _
+    c.withdraw.ensures.after c.in_ok-take.ensures.answer c.take.ensures.after (ap g.E.Edition.terms c.settle.ensures.edition) c.settle.ensures.table

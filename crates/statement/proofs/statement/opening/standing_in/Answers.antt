@@ -9,9 +9,9 @@ pub loop-hour-preserved : goal.loop-hour-preserved
 loop-hour-preserved g c =
     let f = λ (h : ℕ). count_by is_some (hour_records ((g.S.Store.means c.args.store.now).standing h)) in
     let inv = c.loop-hour.invariant in
-    let one = c.standing-in-hour-count.ensures.is ∙ ap (count_by is_some) c.hour.ensures in (
+    let one = c.standing_in_hour-count.ensures.is ∙ ap (count_by is_some) c.hour.ensures in (
       (λ i. inv.0 i + one i) ∙ sym (counted_more f c.loop-hour.hour),
-      omega (arith, inv.1, c.standing-in-hour-count.ensures.few),
+      omega (arith, inv.1, c.standing_in_hour-count.ensures.few),
     )
 
 pub returns : goal.returns

@@ -1,4 +1,4 @@
-use Rattle.std.proofs.Common.{is_some, None, count_by, ap, ◌∙◌, arith, rules}
+use Rattle.std.proofs.Common.{is_some, count_by, ap, ◌∙◌, arith, rules}
 use Rattle.std.proofs.lemmas.List.{take_all}
 use Rattle.std.proofs.lemmas.List.Sums.{count_by_more_yes, count_by_more_no}
 use Rattle.std.proofs.lemmas.Bool.Decides.{nat_tests}
