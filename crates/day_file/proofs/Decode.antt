@@ -1,5 +1,5 @@
 -- The call that a key and a body are the bytes of: there is one exactly if they have no fault.
-use Rattle.std.proofs.Common.{◌≡◌, ℕ, zero, suc, ◌+◌, ◌-◌, ◌*◌, ◌^◌, ◌<◌, List, [], length, get_or, ℤ, None, sym, refl, ap, ◌∙◌, arith, w32, SFits}
+use Rattle.std.proofs.Common.{◌≡◌, ℕ, zero, suc, ◌+◌, ◌*◌, ◌^◌, ◌<◌, List, [], length, get_or, ℤ, None, sym, refl, ap, ◌∙◌, arith, w32, SFits}
 use borrow.Author.Gap.{read_sfits}
 use Rattle.std.specs.List.{AllByRecursion as All}
 use Rattle.std.proofs.ByRecursion.{All-from_get_or}

@@ -1,7 +1,7 @@
 // One entry of a day file: a key of four bytes, which are kind, hour, slot and a zero, and a body of 48.
 ghost use Rattle.std.specs.Prelude.{◌≡◌, ◌+◌, ◌^◌, ◌<◌, ◌≤◌, [], ◌∷◌, ◌++◌, length, take, drop, Some, None, MatchResult, FitsSigned, slice_index};
 ghost use Rattle.std.specs.Int.{w32};
-ghost use Rattle.std.specs.List.{AllByRecursion as All};
+ghost use Rattle.std.specs.List.{AllByRecursion};
 ghost use Rattle.settlement.specs.Rulings.{first, ruled};
 ghost use Rattle.day_file.specs.Encode.{row_figures, record_figures};
 ghost use Rattle.day_file.specs.Encode.{key as keyBytes, body as bodyBytes};
@@ -34,7 +34,7 @@ pub(crate) const READING_WITHDRAWN: u8 = 5;
 fn row_of(body: &[u8]) -> Schedule
     requires { length body.now ≡ 48 }
     ensures bytes { words (row_figures result) ≡ take 24 body.now }
-    ensures fit { All (FitsSigned w32) (row_figures result) }
+    ensures fit { AllByRecursion (FitsSigned w32) (row_figures result) }
 {
     Schedule {
         generation: word_at(body, 0),
@@ -106,7 +106,7 @@ fn check_body(kind: u8, body: &[u8], place: usize) -> Result<(), FileFault>
 
 // The call of an entry that has no fault, wherever it stands.
 fn change_of(key: [u8; 4], body: &[u8]) -> Change
-    requires bytes { All (λ b. b < 2 ^ 8) key }
+    requires bytes { AllByRecursion (λ b. b < 2 ^ 8) key }
     requires size { length body.now ≡ 48 }
     requires key { key_fault 0 key ≡ None }
     requires body { body_fault (slice_index key 0) 0 body.now ≡ None }

@@ -1,7 +1,7 @@
 // Writing a day file.
 ghost use Rattle.std.specs.Prelude.{◌≡◌, ◌*◌, ◌^◌, ◌<◌, [], ◌∷◌, ◌++◌, length, MatchResult, FitsSigned};
 ghost use Rattle.std.specs.Int.{w32};
-ghost use Rattle.std.specs.List.{flat_map, AllByRecursion as All};
+ghost use Rattle.std.specs.List.{flat_map, AllByRecursion};
 ghost use Rattle.day_file.specs.Encode.{record_body, row_figures, padded};
 ghost use Rattle.day_file.specs.Encode.{key as keyBytes, body as bodyBytes};
 ghost use Rattle.day_file.specs.Numbers.{half};
@@ -20,7 +20,7 @@ use settlement::{Interval, Schedule};
 // The four bytes of a key.
 fn key(kind: u8, hour: u8, slot: u8) -> [u8; 4]
     ensures bytes { result ≡ kind ∷ hour ∷ slot ∷ 0 ∷ [] }
-    ensures fit { All (λ b. b < 2 ^ 8) result }
+    ensures fit { AllByRecursion (λ b. b < 2 ^ 8) result }
 {
     [kind, hour, slot, 0]
 }
@@ -75,7 +75,7 @@ fn put_record(out: &mut [u8], v: &Interval)
 fn put_row(out: &mut [u8], row: &Schedule)
     requires { length out.old ≡ 48 }
     ensures bytes { out.new ≡ padded (row_figures row.now) }
-    ensures fit { All (FitsSigned w32) (row_figures row.now) }
+    ensures fit { AllByRecursion (FitsSigned w32) (row_figures row.now) }
 {
     let figures = [
         row.generation,
@@ -107,7 +107,7 @@ fn put_body(out: &mut [u8], call: &Change)
 fn put_keys(out: &mut [u8], calls: &[Change])
     requires { length out.old ≡ 4 * length calls.now }
     ensures bytes { out.new ≡ flat_map keyBytes calls.now }
-    ensures fit { All FitKey calls.now }
+    ensures fit { AllByRecursion FitKey calls.now }
 {
     for (i, call) in calls.iter().enumerate() {
         out[KEY * i..KEY * i + KEY].copy_from_slice(&key_of(call));
@@ -118,7 +118,7 @@ fn put_keys(out: &mut [u8], calls: &[Change])
 fn put_bodies(out: &mut [u8], calls: &[Change])
     requires { length out.old ≡ 48 * length calls.now }
     ensures bytes { out.new ≡ flat_map bodyBytes calls.now }
-    ensures fit { All FitFigures calls.now }
+    ensures fit { AllByRecursion FitFigures calls.now }
 {
     for (i, call) in calls.iter().enumerate() {
         put_body(&mut out[BODY * i..BODY * i + BODY], call);

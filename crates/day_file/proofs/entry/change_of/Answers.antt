@@ -12,8 +12,8 @@ returns-in-1 c =
     let e = plain_key 0 1 c.args.key n k refl c.requires.key in
     record {
       key = e;
-      body = schedule_body 0 _ c.row-of.result c.args.body.now c.requires.size b c.row-of.ensures.bytes;
-      fit = (key_fit c.args.key _ c.requires.bytes e, c.row-of.ensures.fit);
+      body = schedule_body 0 _ c.row_of.result c.args.body.now c.requires.size b c.row_of.ensures.bytes;
+      fit = (key_fit c.args.key _ c.requires.bytes e, c.row_of.ensures.fit);
     }
 
 pub returns-in-2 : goal.returns-in-2
@@ -24,8 +24,8 @@ returns-in-2 c =
     let e = slot_key 0 2 c.args.key n k refl c.requires.key in
     record {
       key = e;
-      body = posting_body 0 _ _ c.record-of.result c.args.body.now c.requires.size b c.record-of.ensures.front c.record-of.ensures.figures;
-      fit = (key_fit c.args.key _ c.requires.bytes e, c.record-of.ensures.fit);
+      body = posting_body 0 _ _ c.record_of.result c.args.body.now c.requires.size b c.record_of.ensures.front c.record_of.ensures.figures;
+      fit = (key_fit c.args.key _ c.requires.bytes e, c.record_of.ensures.fit);
     }
 
 pub returns-in-3 : goal.returns-in-3
@@ -44,12 +44,12 @@ returns-in-4 c =
     let e = plain_key 0 4 c.args.key n k refl c.requires.key in
     record {
       key = e;
-      body = reading_body 0 _ _ c.args.body.now c.requires.size b (read_word c.word-at.result c.word-at.type-inv c.word-at.ensures);
-      fit = (key_fit c.args.key _ c.requires.bytes e, subst (SFits w32) (sym (handed {z = c.word-at.result} c.word-at.type-inv)) (record { sfits = c.word-at.type-inv }));
+      body = reading_body 0 _ _ c.args.body.now c.requires.size b (read_word c.word_at.result c.word_at.type_inv c.word_at.ensures);
+      fit = (key_fit c.args.key _ c.requires.bytes e, subst (SFits w32) (sym (handed {z = c.word_at.result} c.word_at.type_inv)) (record { sfits = c.word_at.type_inv }));
     }
 
-pub returns-in-default : goal.returns-in-default
-returns-in-default c =
+pub returns-in_default : goal.returns-in_default
+returns-in_default c =
     let kk = kind_known 0 c.args.key c.requires.key in
     let k : get_or c.args.key 0 0 ≡ 5 = omega (arith, kk.0, kk.1) in
     let n : length c.args.key ≡ 4 = search rules in

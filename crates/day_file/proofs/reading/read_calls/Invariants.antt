@@ -1,4 +1,4 @@
-use Rattle.std.proofs.Common.{◌-◌, vec_items}
+use Rattle.std.proofs.Common.{vec_items}
 use Rattle.day_file.proofs.Files.{SoFar}
 use Rattle.day_file.proofs.reading.read_calls.Given as goal
 

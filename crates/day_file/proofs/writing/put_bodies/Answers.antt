@@ -9,9 +9,9 @@ use Rattle.day_file.proofs.writing.put_bodies.Goals as goal
 
 pub loop-i-preserved : goal.loop-i-preserved
 loop-i-preserved c = (
-  joined_put body 48 length-body c.args.calls.now _ c.loop-i.i (48 * c.loop-i.i) (48 * (c.loop-i.i + 1)) c.loop-i.out c.args.out.now c.put-body.new.out c.loop-i-test.true
-      (at_place c.args.calls.now c.loop-i.i _ c.loop-i-test.true) c.put-body.ensures.bytes refl refl c.loop-i.invariant.0,
-  All-more FitFigures c.args.calls.now c.loop-i.i _ c.loop-i-test.true c.loop-i.invariant.1 c.put-body.ensures.fit,
+  joined_put body 48 length-body c.args.calls.now _ c.loop-i.i (48 * c.loop-i.i) (48 * (c.loop-i.i + 1)) c.loop-i.out c.args.out.now c.put_body.new.out c.loop-i-test.true
+      (at_place c.args.calls.now c.loop-i.i _ c.loop-i-test.true) c.put_body.ensures.bytes refl refl c.loop-i.invariant.0,
+  All-more FitFigures c.args.calls.now c.loop-i.i _ c.loop-i-test.true c.loop-i.invariant.1 c.put_body.ensures.fit,
 )
 
 pub returns : goal.returns

@@ -9,9 +9,9 @@ use Rattle.day_file.proofs.writing.put_keys.Goals as goal
 
 pub loop-i-preserved : goal.loop-i-preserved
 loop-i-preserved c = (
-  joined_put key 4 length-key c.args.calls.now _ c.loop-i.i (4 * c.loop-i.i) (4 * (c.loop-i.i + 1)) c.loop-i.out c.args.out.now c.copy-from-slice.new.self c.loop-i-test.true
-      (at_place c.args.calls.now c.loop-i.i _ c.loop-i-test.true) (c.copy-from-slice.ensures.after ∙ c.key-of.ensures.bytes) refl refl c.loop-i.invariant.0,
-  All-more FitKey c.args.calls.now c.loop-i.i _ c.loop-i-test.true c.loop-i.invariant.1 c.key-of.ensures.fit,
+  joined_put key 4 length-key c.args.calls.now _ c.loop-i.i (4 * c.loop-i.i) (4 * (c.loop-i.i + 1)) c.loop-i.out c.args.out.now c.copy_from_slice.new.self c.loop-i-test.true
+      (at_place c.args.calls.now c.loop-i.i _ c.loop-i-test.true) (c.copy_from_slice.ensures.after ∙ c.key_of.ensures.bytes) refl refl c.loop-i.invariant.0,
+  All-more FitKey c.args.calls.now c.loop-i.i _ c.loop-i-test.true c.loop-i.invariant.1 c.key_of.ensures.fit,
 )
 
 pub returns : goal.returns

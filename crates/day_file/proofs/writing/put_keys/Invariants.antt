@@ -1,4 +1,4 @@
-use Rattle.std.proofs.Common.{◌≡◌, ◌+◌, ◌*◌, ◌++◌, take, drop}
+use Rattle.std.proofs.Common.{◌≡◌, ◌*◌, ◌++◌, take, drop}
 use Rattle.std.specs.List.{flat_map, AllByRecursion as All}
 use Rattle.day_file.specs.Encode.{key}
 use Rattle.day_file.specs.Valid.{FitKey}

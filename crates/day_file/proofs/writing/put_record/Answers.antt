@@ -18,5 +18,5 @@ returns c =
     let s8 : SFits w32 c.args.v.now.prices.congestion = search rules in
     let s9 : SFits w32 c.args.v.now.reserve.east = search rules in
     let s10 : SFits w32 c.args.v.now.reserve.west = search rules in
-    let p : c.put-words.new.out ≡ words (record_figures c.args.v.now) = simp to_z-of_z at c.put-words.ensures in
-    record { bytes = record_put c.args.v.now c.copy-from-slice.new.self c.put-words.new.out c.args.out.now _ (c.copy-from-slice.ensures.after ∙ c.front.ensures.bytes) p c.requires refl; fit = (c.front.ensures.fit.0, c.front.ensures.fit.1, (s0, (s1, (s2, (s3, (s4, (s5, (s6, (s7, (s8, (s9, (s10, tt)))))))))))) }
+    let p : c.put_words.new.out ≡ words (record_figures c.args.v.now) = simp to_z-of_z at c.put_words.ensures in
+    record { bytes = record_put c.args.v.now c.copy_from_slice.new.self c.put_words.new.out c.args.out.now _ (c.copy_from_slice.ensures.after ∙ c.front.ensures.bytes) p c.requires refl; fit = (c.front.ensures.fit.0, c.front.ensures.fit.1, (s0, (s1, (s2, (s3, (s4, (s5, (s6, (s7, (s8, (s9, (s10, tt)))))))))))) }

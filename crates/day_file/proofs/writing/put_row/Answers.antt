@@ -10,4 +10,4 @@ returns c =
     let s3 : SFits w32 c.args.row.now.prices.energy = search rules in
     let s4 : SFits w32 c.args.row.now.prices.loss = search rules in
     let s5 : SFits w32 c.args.row.now.prices.congestion = search rules in
-    record { bytes = simp to_z-of_z at c.put-padded.ensures; fit = (s0, (s1, (s2, (s3, (s4, (s5, tt)))))) }
+    record { bytes = simp to_z-of_z at c.put_padded.ensures; fit = (s0, (s1, (s2, (s3, (s4, (s5, tt)))))) }

@@ -5,10 +5,10 @@ use Rattle.day_file.proofs.writing.write.Goals as goal
 
 pub returns : goal.returns
 returns c =
-    let e = (ruled_ok _ _ _ c.in-ok-check-writing.ensures).0 in
+    let e = (ruled_ok _ _ _ c.in_ok-check_writing.ensures).0 in
     record {
       unrefused = e;
-      valid = writable c.args.header.now c.args.calls.now _ e c.put-keys.ensures.fit c.put-bodies.ensures.fit;
-      size = c.file-length-end.ensures;
-      bytes = write_is c.args.header.now c.args.calls.now c.to-be-bytes.result c.copy-from-slice.new.self c.put-keys.new.out c.put-bodies.new.out c.args.out.now c.file-length-end.result c.to-be-bytes.ensures c.copy-from-slice.ensures.after c.put-keys.ensures.bytes c.put-bodies.ensures.bytes c.file-length-end.ensures;
+      valid = writable c.args.header.now c.args.calls.now _ e c.put_keys.ensures.fit c.put_bodies.ensures.fit;
+      size = c.file_length-end.ensures;
+      bytes = write_is c.args.header.now c.args.calls.now c.to_be_bytes.result c.copy_from_slice.new.self c.put_keys.new.out c.put_bodies.new.out c.args.out.now c.file_length-end.result c.to_be_bytes.ensures c.copy_from_slice.ensures.after c.put_keys.ensures.bytes c.put_bodies.ensures.bytes c.file_length-end.ensures;
     }
