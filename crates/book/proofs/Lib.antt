@@ -1,4 +1,5 @@
 pub mod Rows
+pub mod RowsRead
 pub mod Keeps
 pub mod Laws
 pub mod Lasting

@@ -1,7 +1,7 @@
 -- The line of a day, summed row after row.
-use Rattle.std.proofs.Common.{◌≡◌, ℕ, ◌+◌, ◌*◌, ◌^◌, ◌<◌, ◌≤◌, true, ◌&&◌, leb, List, [], ◌∷◌, ◌++◌, length, get_or, take, ℤ, pos, ◌+ℤ◌, None, nat_abs, sum_by, sym, ap, ◌∙◌, subst, mul-le-mul_right, arith, lit<, lit≤, w64, to_z, of_z}
+use Rattle.std.proofs.Common.{◌≡◌, ℕ, ◌+◌, ◌*◌, ◌^◌, ◌<◌, ◌≤◌, true, ◌&&◌, leb, List, [], ◌∷◌, ◌++◌, length, get_or, take, ℤ, ◌+ℤ◌, nat_abs, sum_by, sym, ap, ◌∙◌, subst, mul-le-mul_right, arith, lit<, lit≤, w64, to_z, of_z}
 use Rattle.std.specs.List.{AllByRecursion as All}
-use Rattle.std.proofs.lemmas.List.{take_more, get_or-take, get_or_default, length-take}
+use Rattle.std.proofs.lemmas.List.{take_more, get_or-take, length-take}
 use Rattle.std.proofs.ByRecursion.{All-weaker, All-from_get_or, sum_by_le}
 use Rattle.std.proofs.lemmas.List.Sums.{sum_by_push}
 use Rattle.std.proofs.lemmas.Bool.{and_parts, leb-true}
@@ -16,6 +16,7 @@ use Rattle.book.specs.declared.figures.Row.{Row}
 use Rattle.settlement.specs.declared.figures.State.{State}
 use Rattle.settlement.specs.declared.figures.State.TheVariants.{Unsettled, Settled}
 use Rattle.book.specs.Lines.{settled_one, amounts_of, day_of, no_row}
+use Rattle.book.proofs.RowsRead.{zero_row, row_read}
 use Rattle.statement.specs.Days.{is_day_part, AmountsRoom, DayRoom, amounts_plus, day_plus}
 
 -- The parts of a small line.
@@ -112,28 +113,6 @@ rows_room rows k d l few all e =
     subst (λ (d : DayLine). DayRoom d 24) (sym e)
     (day_room (take k rows) (omega arith)
     (All-from_get_or Tame (take k rows) no_row (λ i inside. subst Tame (sym (get_or-take k rows i no_row (omega arith))) (all i))))
-
--- A row as the code reads it: past the end it would read zeros.
-abbrev pub zero_row : Row
-zero_row =
-    record {
-      schedule = None;
-      reading = None;
-      line =
-          record {
-            state = Settled;
-            intervals = 0;
-            seconds = 0;
-            ahead = record { energy = pos 0; loss = pos 0; congestion = pos 0; total = pos 0 };
-            balance = pos 0;
-            balancing = record { energy = pos 0; loss = pos 0; congestion = pos 0; total = pos 0 };
-            spin = pos 0;
-            total = pos 0;
-          };
-    }
-
-pub row_read : (rows : List Row) (k : ℕ) → k < length rows → get_or rows k zero_row ≡ get_or rows k no_row
-row_read rows k l = get_or_default rows k zero_row no_row l
 
 -- One row more.
 amounts_push : (f : Row → Amounts) (rows : List Row) (r : Row) → amounts_of f (rows ++ r ∷ []) ≡ amounts_plus (amounts_of f rows) (f r)

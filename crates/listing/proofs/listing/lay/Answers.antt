@@ -11,5 +11,5 @@ returns c =
     let n : at + k ≡ at + length bytes = omega arith in
     record {
       place = refl;
-      after = ap (λ y. take at out ++ (y ++ drop k (drop at out))) c.copy-from-slice.ensures.after ∙ ap (λ y. take at out ++ (bytes ++ y)) (drop-drop k at out ∙ ap (λ m. drop m out) n);
+      after = ap (λ y. take at out ++ (y ++ drop k (drop at out))) c.copy_from_slice.ensures.after ∙ ap (λ y. take at out ++ (bytes ++ y)) (drop-drop k at out ∙ ap (λ m. drop m out) n);
     }

@@ -1,4 +1,6 @@
 use Rattle.std.proofs.Common.{◌≡◌, length, sym, ap, ◌∙◌, arith}
+use Rattle.book.proofs.RowsRead.{row_read}
+use Rattle.listing.specs.Rows.{hour_row}
 use Rattle.listing.specs.Listing.{listing}
 use Rattle.listing.proofs.Whole.{as_far, far_none, length_far_more, length-heading, length-listing, short}
 use Rattle.listing.proofs.listing.listing_length.Goals as goal
@@ -12,11 +14,12 @@ pub loop-hour-preserved : goal.loop-hour-preserved
 loop-hour-preserved c =
     let t = c.table-table.result.now in
     let s = short c.hour_row.result in
-    let e = ap length c.as-bytes.ensures in
-    (length_far_more t c.loop-hour.hour c.loop-hour.needed c.as-bytes.result.now c.loop-hour.invariant.0 (c.as-bytes.ensures ∙ c.hour_row.ensures), omega (arith, c.loop-hour.invariant.1))
+    let e = ap length c.as_bytes.ensures in
+    let row = c.as_bytes.ensures ∙ c.hour_row.ensures ∙ ap (hour_row c.loop-hour.hour) (row_read t.rows c.loop-hour.hour (omega arith)) in
+    (length_far_more t c.loop-hour.hour c.loop-hour.needed c.as_bytes.result.now c.loop-hour.invariant.0 row, omega (arith, c.loop-hour.invariant.1))
 
 pub returns : goal.returns
 returns c =
     let t = c.table-table.result.now in
-    length-listing t c.loop-hour.hour c.loop-hour.needed c.as-bytes-2.result.now (omega arith) c.loop-hour.invariant.0 (c.as-bytes-2.ensures ∙ c.day_row.ensures)
+    length-listing t c.loop-hour.hour c.loop-hour.needed c.as_bytes-2.result.now (omega arith) c.loop-hour.invariant.0 (c.as_bytes-2.ensures ∙ c.day_row.ensures)
     ∙ ap (λ x. length (listing x)) c.table-table.ensures

@@ -7,8 +7,8 @@ use Rattle.listing.proofs.rows.day_row.Goals as goal
 pub returns : goal.returns
 returns c =
     let day = c.args.day.now in
-    figures_line (codes "DAY") (text c.headed-line.result) (text c.then-count.new.self) (text c.end-with.new.self) (decimal day.settled) c.of-day.result (day_columns day)
+    figures_line (codes "DAY") (text c.headed-line.result) (text c.then_count.new.self) (text c.end_with.new.self) (decimal day.settled) c.of_day.result (day_columns day)
     c.headed-line.ensures.text
-    c.then-count.ensures.text
-    c.end-with.ensures
-    c.of-day.ensures
+    c.then_count.ensures.text
+    c.end_with.ensures
+    c.of_day.ensures

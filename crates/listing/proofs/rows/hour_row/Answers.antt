@@ -16,9 +16,9 @@ returns c =
     let line = c.args.row.now.line in
     let state : List ℕ = state_letter line.state ∷ [] in
     let one = text c.numbered-line.result in
-    listed c.args.row.now.schedule c.in-Some.field-0 (text c.end-with.new.self) (line_of (decimal hour ∷ state ∷ figures (hour_columns line))) c.in-Some.is
-    (figures_line (decimal hour) one (text c.then-letter.new.self) (text c.end-with.new.self) state c.of-hour.result (hour_columns line)
+    listed c.args.row.now.schedule c.in-Some.field-0 (text c.end_with.new.self) (line_of (decimal hour ∷ state ∷ figures (hour_columns line))) c.in-Some.is
+    (figures_line (decimal hour) one (text c.then_letter.new.self) (text c.end_with.new.self) state c.of_hour.result (hour_columns line)
     c.numbered-line.ensures.text
-    (c.then-letter.ensures.text ∙ ap (λ x. one ++ (44 ∷ x ∷ [])) c.letter.ensures)
-    c.end-with.ensures
-    c.of-hour.ensures)
+    (c.then_letter.ensures.text ∙ ap (λ x. one ++ (44 ∷ x ∷ [])) c.letter.ensures)
+    c.end_with.ensures
+    c.of_hour.ensures)

@@ -2,7 +2,8 @@ use Rattle.std.proofs.Common.{sym, refl, ap, ◌∙◌, subst, arith}
 use Rattle.arithmetic.specs.Sums.{sum_ℤ}
 use Rattle.std.proofs.lemmas.List.{take_all}
 use Rattle.book.specs.Lines.{day_of}
-use Rattle.statement.proofs.Summing.{Tame, rows_room, row_read, day_more}
+use Rattle.book.proofs.RowsRead.{row_read}
+use Rattle.statement.proofs.Summing.{Tame, rows_room, day_more}
 use Rattle.statement.proofs.day.added_up.Goals as goal
 
 pub loop-row-init : goal.loop-row-init

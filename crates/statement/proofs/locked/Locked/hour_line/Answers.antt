@@ -1,6 +1,6 @@
 use Rattle.std.proofs.Common.{arith}
 use Rattle.statement.specs.Accounts.{closed}
-use Rattle.statement.proofs.Summing.{row_read}
+use Rattle.book.proofs.RowsRead.{row_read}
 use Rattle.statement.proofs.Asking.{line_told, line_refused}
 use Rattle.statement.proofs.Forming.{formed_closed}
 use Rattle.statement.proofs.locked.Locked.hour_line.Goals as goal

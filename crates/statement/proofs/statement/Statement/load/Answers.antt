@@ -1,6 +1,6 @@
 use Rattle.std.proofs.Common.{◌∙◌, arith}
 use Rattle.statement.specs.Accounts.{account}
-use Rattle.statement.proofs.Summing.{row_read}
+use Rattle.book.proofs.RowsRead.{row_read}
 use Rattle.statement.proofs.Loading.{outside_it, loaded_is, fit_it, bad_records}
 use Rattle.statement.proofs.statement.Statement.load.Goals as goal
 
