@@ -1,5 +1,5 @@
 -- A page that has what was noted and the listing is shown of its day.
-use Rattle.std.proofs.Common.{◌≡◌, ℕ, zero, suc, List, [], ◌∷◌, ◌++◌, length, Some, None, Ok, Err, Result, refl, ap, ◌∙◌, subst, inr, ⊎_elim, arith, MatchResult}
+use Rattle.std.proofs.Common.{◌≡◌, ℕ, zero, suc, List, [], ◌++◌, length, None, Ok, Err, Result, refl, ap, ◌∙◌, subst, inr, ⊎_elim, arith, MatchResult}
 use Rattle.std.proofs.lemmas.Bool.{le-leb}
 use Rattle.settlement.specs.Editions.{Terms, newer}
 use Rattle.settlement.proofs.Rulings.{neither}
@@ -7,7 +7,7 @@ use Rattle.record_store.specs.Meaning.{Meaning, fresh, hour_records}
 use Rattle.book.specs.declared.calls.Change.{Change}
 use Rattle.book.specs.declared.figures.Table.{Table}
 use Rattle.book.specs.Outcome.{Account, all_answers}
-use Rattle.book.specs.Book.{Opening, accepted}
+use Rattle.book.specs.Book.{accepted}
 use Rattle.book.specs.Gate.{count, opening_refusal, Opened}
 use Rattle.book.proofs.Laws.{Formed, law_by, kept_is}
 use Rattle.day_file.specs.declared.day.Header.{Header}

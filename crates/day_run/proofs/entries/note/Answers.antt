@@ -12,5 +12,5 @@ pub returns-in-Err : goal.returns-in-Err
 returns-in-Err g c =
     record {
       after = c.enter.ensures.after;
-      page = refusal_written _ _ _ _ c.args.entry _ _ c.in-Err.ensures.answer (c.as-bytes.ensures ∙ c.refused_line.ensures) c.extend-from-slice.ensures.items;
+      page = refusal_written _ _ _ _ c.args.entry _ _ c.in-Err.ensures.answer (c.as_bytes.ensures ∙ c.refused_line.ensures) c.extend_from_slice.ensures.items;
     }
