@@ -28,5 +28,5 @@ fn figures_of_every_size_are_written(rt: HostRuntime) {
         total: 0,
     };
     let row = b"DAY,0,-9223372036854775808,9223372036854775807,-1,7,10,0\n";
-    assert!(rt; day_row(&day).as_bytes() == row);
+    assert!(rt; day_row(&day).as_bytes() == row.as_slice());
 }

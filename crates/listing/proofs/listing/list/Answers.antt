@@ -1,4 +1,4 @@
-use Rattle.std.proofs.Common.{◌≡◌, ◌+◌, ◌≤◌, ◌++◌, length, sym, ap, ◌∙◌, arith}
+use Rattle.std.proofs.Common.{◌≡◌, ◌+◌, ◌++◌, length, sym, ap, ◌∙◌, arith}
 use Rattle.book.proofs.RowsRead.{row_read}
 use Rattle.listing.specs.Rows.{hour_row}
 use Rattle.listing.specs.Listing.{heading, listing, laid}

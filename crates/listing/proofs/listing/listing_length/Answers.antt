@@ -1,8 +1,8 @@
-use Rattle.std.proofs.Common.{◌≡◌, length, sym, ap, ◌∙◌, arith}
+use Rattle.std.proofs.Common.{length, sym, ap, ◌∙◌, arith}
 use Rattle.book.proofs.RowsRead.{row_read}
 use Rattle.listing.specs.Rows.{hour_row}
 use Rattle.listing.specs.Listing.{listing}
-use Rattle.listing.proofs.Whole.{as_far, far_none, length_far_more, length-heading, length-listing, short}
+use Rattle.listing.proofs.Whole.{far_none, length_far_more, length-heading, length-listing, short}
 use Rattle.listing.proofs.listing.listing_length.Goals as goal
 
 pub loop-hour-init : goal.loop-hour-init

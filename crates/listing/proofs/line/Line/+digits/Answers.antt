@@ -1,4 +1,4 @@
-use Rattle.std.proofs.Common.{◌≡◌, ◌+◌, ◌%◌, [], ◌∷◌, ◌++◌, ap, ◌∙◌, arith}
+use Rattle.std.proofs.Common.{◌+◌, ◌%◌, [], ◌∷◌, ◌++◌, ap, ◌∙◌, arith}
 use Rattle.listing.specs.Texts.{text}
 use Rattle.listing.proofs.Digits.{length_one, length_more, last_of_one, last_of_more}
 use Rattle.listing.proofs.line.Line.+digits.Goals as goal
