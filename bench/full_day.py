@@ -1,7 +1,7 @@
 #!/usr/bin/env python3
 """Instructions that a full day takes, against a plain Rust program with a directly indexed table.
 
-    rt check day_pool day_journal && python3 bench/full_day.py
+    python3 bench/full_day.py
 
 The day has 25 hours, a schedule row and a reading for each, 600 postings that settle every hour, and 350 corrections of
 postings: 1,000 calls in all. Counted by valgrind's callgrind; the peer is bench/peer/main.rs, built by rustc -O.
@@ -15,6 +15,7 @@ from pathlib import Path
 
 ROOT = Path(__file__).resolve().parent.parent
 sys.path.insert(0, str(ROOT / "tests"))
+from programs import built  # noqa: E402
 from reference import POSTING, SCHEDULE, encode  # noqa: E402
 
 
@@ -52,7 +53,7 @@ with tempfile.TemporaryDirectory() as scratch:
     expected, least = instructions(peer, data, scratch)
     print(f"{'peer':<12} {least:>12,}")
     for name in ("day_pool", "day_journal"):
-        printed, count = instructions(ROOT / "target" / "bin" / name, data, scratch)
+        printed, count = instructions(built(name), data, scratch)
         if printed != expected:
             sys.exit(f"{name} prints something else than the peer")
         print(f"{name:<12} {count:>12,}  {count / least:.2f} times the peer")

@@ -1,17 +1,21 @@
 #!/usr/bin/env python3
 """Instructions for one read, write and taking away in stores of several sizes, counted by valgrind's callgrind.
 
-    rt check store_costs && python3 bench/store_costs.py
+    python3 bench/store_costs.py
 
 The program is run twice, the second time doing the same thing oftener; the difference, divided by how much oftener, is
 what one costs. A taking away is counted together with the write before it, and the write is subtracted.
 """
 import re
 import subprocess
+import sys
 import tempfile
 from pathlib import Path
 
-PROGRAM = Path(__file__).resolve().parent.parent / "target" / "bin" / "store_costs"
+sys.path.insert(0, str(Path(__file__).resolve().parent.parent / "tests"))
+from programs import built  # noqa: E402
+
+PROGRAM = built("store_costs")
 FEW, MANY = 120, 360
 
 

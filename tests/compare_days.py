@@ -2,7 +2,7 @@
 """Runs the programs day_pool and day_journal on random days and on damaged files, and compares what they print with what
 tests/reference.py works out on its own.
 
-    rt check day_pool day_journal && python3 tests/compare_days.py [days [damaged [seed]]]
+    python3 tests/compare_days.py [days [damaged [seed]]]
 
 It stops at the first difference and leaves the input in the file that it names.
 """
@@ -11,10 +11,10 @@ import subprocess
 import sys
 from pathlib import Path
 
+from programs import built
 from reference import POSTING, SCHEDULE, Store, encode, output
 
-BIN = Path(__file__).resolve().parent.parent / "target" / "bin"
-PROGRAMS = (("day_pool", 600, 0), ("day_journal", 1000, 1))
+PROGRAMS = ((built("day_pool"), 600, 0), (built("day_journal"), 1000, 1))
 POWERS = ("average", "transactions", "spin", "generation")
 EDGES = (-2**31, -2_000_001, -2_000_000, -1_000_001, -1_000_000, -1, 0, 1, 1_000_000, 1_000_001, 2_000_000, 2_000_001, 2**31 - 1)
 
@@ -121,11 +121,11 @@ def damaged(rng):
 def compare(data):
     for program, capacity, charge in PROGRAMS:
         expected, status = output(data, Store(capacity, charge))
-        run = subprocess.run([str(BIN / program)], input=data, capture_output=True)
+        run = subprocess.run([str(program)], input=data, capture_output=True)
         if run.stdout != expected.encode() or run.returncode != status:
             bad = Path("bad.day")
             bad.write_bytes(data)
-            print(f"{program} differs on {bad}: status {run.returncode} for {status}")
+            print(f"{program.name} differs on {bad}: status {run.returncode} for {status}")
             print(f"expected:\n{expected}printed:\n{run.stdout.decode(errors='replace')}")
             return False
     return True

@@ -7,8 +7,8 @@
     python3 tests/plant.py --listed         those of tests/plantings.txt alone, --listed=CRATE of one crate
 
 A planting is a block of lines `crate:`, `name:`, `file:`, `old:` (standing once in the file) and `new:`, the last two as
-often as need be; a must-fail edit has the same lines without the first two. The copy keeps
-what earlier checks left in target/, so that only what a bug touches is checked again. A bug is *refused* where the check
+often as need be; a must-fail edit has the same lines without the first two. What earlier checks on
+this machine kept serves the copy too, so that only what a bug touches is checked again. A bug is *refused* where the check
 fails, and has *survived* where the crate is still proved. The first error is printed with each.
 """
 import re
@@ -66,7 +66,7 @@ def plant(copy, crate, changes):
         if text.count(old) != 1:
             return f"stands {text.count(old)} times", old
         source.write_text(text.replace(old, new))
-    run = subprocess.run(["rt", "dev", crate], cwd=copy, capture_output=True, text=True)
+    run = subprocess.run(["rt", "check"], cwd=copy / "crates" / crate, capture_output=True, text=True)
     for source, text in before.items():
         source.write_text(text)
     out = run.stdout + run.stderr
@@ -80,7 +80,7 @@ def main():
     every = list(listed()) if only else list(edits()) + list(listed())
     chosen = [b for b in every if crate in ("", b[0]) and (not words[1:] or b[1] in words[1:])]
     copy = Path(tempfile.mkdtemp(prefix="planted_"))
-    shutil.copytree(ROOT, copy / "repo", ignore=shutil.ignore_patterns(".git"), symlinks=True)
+    shutil.copytree(ROOT, copy / "repo", ignore=shutil.ignore_patterns(".git", "out"))
     survived = 0
     for block in chosen:
         verdict, why = plant(copy / "repo", block[0], block[2])
