@@ -18,7 +18,14 @@ BY_HAND = {
     "Fit-record": "FitRecord", "Fit-key": "FitKey", "Fit-figures": "FitFigures", "File-of": "FileOf", "Day-of": "DayOf",
     "Calls-in": "CallsIn", "So-far": "SoFar", "In-header": "InHeader",
     "so-far-none": "SoFar-none", "so-far-stop": "SoFar-stop",
-    "sumZ": "sum_ℤ", "sumBy-scale": "sum_by_scale", "nearest-neg": "nearest-neg",
+    "sumZ": "sum_ℤ", "sumBy-scale": "sum_by_scale", "nearest-neg": "nearest-neg", "ofZ_below": "of_z_below",
+}
+# Names within one proof, and names brought in under another one.
+LOCAL = {
+    "zero-scales": "zero_scales", "scaled-sum": "scaled_sum", "scaled-seconds": "scaled_seconds", "others-is": "others_is",
+    "yes-in": "yes_in", "laid-is": "laid_is", "dropped-is": "dropped_is", "statement-report": "statement_report",
+    "reportOf": "report_of", "keyBytes": "key_bytes", "bodyBytes": "body_bytes", "refusedBy": "refused_by",
+    "noMemory": "no_memory", "headingOf": "heading_of", "standingIn": "standing_of",
 }
 # Facts written small, in the crate that has them.
 IN_CRATE = {"day_file": {"passes": "Passes", "stops": "Stops"}}
@@ -65,7 +72,7 @@ def spelling():
             if re.fullmatch(r"[A-Za-z][A-Za-z0-9_'?-]*", name) and respelled(name) != name:
                 table[name] = respelled(name)
     table["In-header"] = BY_HAND["In-header"]
-    return table
+    return {**table, **LOCAL}
 
 
 TOKEN = re.compile(r"[A-Za-z0-9_'?ℤℕ+\-]+")

@@ -55,7 +55,7 @@ standing_is o log h l =
 alike : {A B : Type 0} (n h : ℕ) (f : Bool → B → A) (x y : B) → n ≤ 25 → (h < 25 → x ≡ y) → f false x ≡ f false y → f (ltb h n) x ≡ f (ltb h n) y
 alike n h f x y fits same out =
     ⊎_elim
-    (λ yes-in. ap (f (ltb h n)) (same (omega (arith, ltb-true h n yes-in))))
+    (λ yes_in. ap (f (ltb h n)) (same (omega (arith, ltb-true h n yes_in))))
     (λ not_in. ap (λ b. f b x) not_in ∙ out ∙ ap (λ b. f b y) (sym not_in))
     (cases_Bool (ltb h n))
 

@@ -1,7 +1,7 @@
 // Why a call is refused.
 ghost use Rattle.std.specs.Prelude.{◌≡◌};
 ghost use Rattle.book.specs.declared.faults.Fault.TheVariants.{InStore};
-ghost use Rattle.book.specs.Faults.{told, report as reportOf};
+ghost use Rattle.book.specs.Faults.{told, report as report_of};
 
 use record_store::StoreFault;
 use settlement::Refusal;
@@ -76,7 +76,7 @@ fn tell(number: u8, hour: u8, slot: u8) -> Report
 impl Fault {
     // Its layer, number, hour and slot; hour and slot are 0 where the call names none.
     pub fn report(self) -> Report
-        ensures { result ≡ reportOf self }
+        ensures { result ≡ report_of self }
     {
         match self {
             Fault::BadHours => tell(1, 0, 0),

@@ -17,8 +17,8 @@ four : (n : ℕ) → n < 2 ^ 32 → (n / 16777216 % 256) * 16777216 + (n / 65536
 four n h =
     mix n (n / 256) (n / 65536) (n / 16777216) _ _ _ _ (omega arith) (omega (arith, div-div-eq-div-mul n 256 256)) (omega (arith, div-div-eq-div-mul n 65536 256)) (omega arith)
 
-ofZ_below : (z : ℤ) → SFits w32 z → of_z w32 z < 2 ^ 32
-ofZ_below z f = search (rules, ints)
+of_z_below : (z : ℤ) → SFits w32 z → of_z w32 z < 2 ^ 32
+of_z_below z f = search (rules, ints)
 
 -- The number that four bytes write.
 abbrev pub value_of : ℕ → ℕ → ℕ → ℕ → ℤ
@@ -28,7 +28,7 @@ abbrev pub value_at : List ℕ → ℕ → ℤ
 value_at bs i = value_of (get_or bs i 0) (get_or bs (i + 1) 0) (get_or bs (i + 2) 0) (get_or bs (i + 3) 0)
 
 pub word_back : (z : ℤ) (rest : List ℕ) → SFits w32 z → value_at (word z ++ rest) 0 ≡ z
-word_back z rest f = ap (to_z w32) (four (of_z w32 z) (ofZ_below z f)) ∙ to_z-of_z w32 z f
+word_back z rest f = ap (to_z w32) (four (of_z w32 z) (of_z_below z f)) ∙ to_z-of_z w32 z f
 
 quad_back : (a b c d : ℕ) → a < 256 → b < 256 → c < 256 → d < 256 → word (value_of a b c d) ≡ a ∷ b ∷ c ∷ d ∷ []
 quad_back a b c d p q r s =

@@ -2,7 +2,7 @@
 use Rattle.std.specs.Prelude.{ℕ}
 use Rattle.book.specs.declared.faults.Layer.TheVariants.{File}
 use Rattle.book.specs.declared.faults.Report.{Report}
-use Rattle.book.specs.Faults.{report as statement-report}
+use Rattle.book.specs.Faults.{report as statement_report}
 use Rattle.day_file.specs.declared.faults.FileFault.{FileFault}
 use Rattle.day_file.specs.declared.faults.FileFault.TheVariants.{Length, Header, Kind, NotZero, Room, InStatement}
 
@@ -17,7 +17,7 @@ report (Header place) = in_file 17
 report (Kind place) = in_file 18
 report (NotZero place) = in_file 19
 report (Room place) = in_file 20
-report (InStatement fault) = statement-report fault
+report (InStatement fault) = statement_report fault
 
 -- The byte, the file's length, or the length needed.
 abbrev pub place : FileFault → ℕ

@@ -1,6 +1,6 @@
 // A day as a file has it, and why none was read.
 ghost use Rattle.std.specs.Prelude.{◌≡◌};
-ghost use Rattle.day_file.specs.declared.day.ReadError.TheVariants.{Refused as refusedBy, NoMemory as noMemory};
+ghost use Rattle.day_file.specs.declared.day.ReadError.TheVariants.{Refused as refused_by, NoMemory as no_memory};
 
 use crate::faults::FileFault;
 use book::Change;
@@ -30,7 +30,7 @@ pub enum ReadError {
 }
 
 impl From<FileFault> for ReadError {
-    ghost from_gives = { λ fault r. r ≡ refusedBy fault };
+    ghost from_gives = { λ fault r. r ≡ refused_by fault };
 
     fn from(fault: FileFault) -> ReadError {
         ReadError::Refused(fault)
@@ -38,7 +38,7 @@ impl From<FileFault> for ReadError {
 }
 
 impl From<AllocError> for ReadError {
-    ghost from_gives = { λ _ r. r ≡ noMemory };
+    ghost from_gives = { λ _ r. r ≡ no_memory };
 
     fn from(_error: AllocError) -> ReadError {
         ReadError::NoMemory
@@ -46,7 +46,7 @@ impl From<AllocError> for ReadError {
 }
 
 impl<T: Drop> From<AllocFailed<T>> for ReadError {
-    ghost from_gives = { λ _ r. r ≡ noMemory };
+    ghost from_gives = { λ _ r. r ≡ no_memory };
 
     fn from(_error: AllocFailed<T>) -> ReadError {
         ReadError::NoMemory

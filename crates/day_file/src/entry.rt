@@ -4,7 +4,7 @@ ghost use Rattle.std.specs.Int.{w32};
 ghost use Rattle.std.specs.List.{AllByRecursion};
 ghost use Rattle.settlement.specs.Rulings.{first, ruled};
 ghost use Rattle.day_file.specs.Encode.{row_figures, record_figures};
-ghost use Rattle.day_file.specs.Encode.{key as keyBytes, body as bodyBytes};
+ghost use Rattle.day_file.specs.Encode.{key as key_bytes, body as body_bytes};
 ghost use Rattle.day_file.specs.Numbers.{half, words};
 ghost use Rattle.day_file.specs.Refusals.{key_fault, body_fault, entry_fault};
 ghost use Rattle.day_file.specs.Valid.{FitRecord, Fit};
@@ -110,8 +110,8 @@ fn change_of(key: [u8; 4], body: &[u8]) -> Change
     requires size { length body.now ≡ 48 }
     requires key { key_fault 0 key ≡ None }
     requires body { body_fault (slice_index key 0) 0 body.now ≡ None }
-    ensures key { keyBytes result ≡ key }
-    ensures body { bodyBytes result ≡ body.now }
+    ensures key { key_bytes result ≡ key }
+    ensures body { body_bytes result ≡ body.now }
     ensures fit { Fit result }
 {
     match key {
@@ -147,7 +147,7 @@ fn check_entry(key: [u8; 4], body: &[u8], key_at: usize, body_at: usize) -> Resu
 pub(crate) fn entry_at(bytes: &[u8], key_at: usize, body_at: usize) -> Result<Change, FileFault>
     requires key { key_at + 4 ≤ length bytes.now }
     requires body { body_at + 48 ≤ length bytes.now }
-    ensures { MatchResult result (λ c. (keyBytes c ≡ take 4 (drop key_at bytes.now)) × (bodyBytes c ≡ take 48 (drop body_at bytes.now)) × Fit c) (λ f. entry_fault bytes.now key_at body_at ≡ Some f) }
+    ensures { MatchResult result (λ c. (key_bytes c ≡ take 4 (drop key_at bytes.now)) × (body_bytes c ≡ take 48 (drop body_at bytes.now)) × Fit c) (λ f. entry_fault bytes.now key_at body_at ≡ Some f) }
 {
     let key = [
         bytes[key_at],

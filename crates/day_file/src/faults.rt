@@ -1,7 +1,7 @@
 // Why a day file, memory for one, or what one of its entries asks is refused.
 ghost use Rattle.std.specs.Prelude.{◌≡◌};
 ghost use Rattle.day_file.specs.declared.faults.FileFault.TheVariants.{InStatement};
-ghost use Rattle.day_file.specs.Faults.{in_file, report as reportOf, place as place_of};
+ghost use Rattle.day_file.specs.Faults.{in_file, report as report_of, place as place_of};
 
 use book::{Fault, Layer, Report};
 
@@ -45,7 +45,7 @@ fn tell(number: u8) -> Report
 impl FileFault {
     // Its layer, number, hour and slot; those of the statement's fault are passed on.
     pub fn report(self) -> Report
-        ensures { result ≡ reportOf self }
+        ensures { result ≡ report_of self }
     {
         match self {
             FileFault::Length(_) => tell(16),

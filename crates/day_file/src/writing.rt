@@ -3,7 +3,7 @@ ghost use Rattle.std.specs.Prelude.{◌≡◌, ◌*◌, ◌^◌, ◌<◌, [], �
 ghost use Rattle.std.specs.Int.{w32};
 ghost use Rattle.std.specs.List.{flat_map, AllByRecursion};
 ghost use Rattle.day_file.specs.Encode.{record_body, row_figures, padded};
-ghost use Rattle.day_file.specs.Encode.{key as keyBytes, body as bodyBytes};
+ghost use Rattle.day_file.specs.Encode.{key as key_bytes, body as body_bytes};
 ghost use Rattle.day_file.specs.Numbers.{half};
 ghost use Rattle.day_file.specs.Valid.{FitRecord, FitKey, FitFigures};
 ghost use Rattle.day_file.specs.Writing.{Written, Unwritten};
@@ -27,7 +27,7 @@ fn key(kind: u8, hour: u8, slot: u8) -> [u8; 4]
 
 // The key of a call. Where it names no slot, that byte is zero.
 fn key_of(call: &Change) -> [u8; 4]
-    ensures bytes { result ≡ keyBytes call.now }
+    ensures bytes { result ≡ key_bytes call.now }
     ensures fit { FitKey call.now }
 {
     match *call {
@@ -91,7 +91,7 @@ fn put_row(out: &mut [u8], row: &Schedule)
 // Writes a call's figures into a body. What has no figures is all zeros.
 fn put_body(out: &mut [u8], call: &Change)
     requires { length out.old ≡ 48 }
-    ensures bytes { out.new ≡ bodyBytes call.now }
+    ensures bytes { out.new ≡ body_bytes call.now }
     ensures fit { FitFigures call.now }
 {
     match *call {
@@ -106,7 +106,7 @@ fn put_body(out: &mut [u8], call: &Change)
 // Writes the keys of calls, one after another.
 fn put_keys(out: &mut [u8], calls: &[Change])
     requires { length out.old ≡ 4 * length calls.now }
-    ensures bytes { out.new ≡ flat_map keyBytes calls.now }
+    ensures bytes { out.new ≡ flat_map key_bytes calls.now }
     ensures fit { AllByRecursion FitKey calls.now }
 {
     for (i, call) in calls.iter().enumerate() {
@@ -117,7 +117,7 @@ fn put_keys(out: &mut [u8], calls: &[Change])
 // Writes the bodies of calls, one after another.
 fn put_bodies(out: &mut [u8], calls: &[Change])
     requires { length out.old ≡ 48 * length calls.now }
-    ensures bytes { out.new ≡ flat_map bodyBytes calls.now }
+    ensures bytes { out.new ≡ flat_map body_bytes calls.now }
     ensures fit { AllByRecursion FitFigures calls.now }
 {
     for (i, call) in calls.iter().enumerate() {

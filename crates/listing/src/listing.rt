@@ -1,6 +1,6 @@
 // The listing of a locked statement: a heading, a row for each hour for which something was sold, and the day's row.
 ghost use Rattle.std.specs.Prelude.{◌≡◌, ◌+◌, ◌≤◌, ◌++◌, length, take, drop};
-ghost use Rattle.listing.specs.Listing.{heading as headingOf, first_rows, listing, Laid};
+ghost use Rattle.listing.specs.Listing.{heading as heading_of, first_rows, listing, Laid};
 
 use crate::rows::{day_row, hour_row};
 use day_file::FileFault;
@@ -12,7 +12,7 @@ const HEADING: &[u8] = b"HOUR,STATE,DAY_AHEAD,ENERGY,LOSS,CONGESTION,SPIN,TOTAL\
 const HOURS: u8 = 25;
 
 fn heading() -> &'static [u8]
-    ensures { result.now ≡ headingOf }
+    ensures { result.now ≡ heading_of }
 {
     HEADING
 }

@@ -231,7 +231,7 @@ module _ (c : Contents Interval) (pooled : Pooled c) where
   -- A record less, with the last one in its place.
   pub reduced : (h s p : ℕ) (c₁ c₂ : Contents Interval) → found c h s ≡ Some p → c₁ ≡ laid c p (get_or c.places (c.used - 1) blank) → c₂ ≡ dropped c₁ h s
       → Becomes c₂ (rewritten (pool_means c) h s None (c.used - 1))
-  reduced h s p c₁ c₂ f laid-is dropped-is =
+  reduced h s p c₁ c₂ f laid_is dropped_is =
       let b : Becomes (removed blank c sound all h s p f) (rewritten (pool_means c) h s None (c.used - 1)) =
       record {
         pooled = record {
@@ -245,7 +245,7 @@ module _ (c : Contents Interval) (pooled : Pooled c) where
         };
         means = rewrites (removed blank c sound all h s p f) (pool_means c) h s None (removed_held blank c sound all h s p f) refl refl;
       } in
-      subst (λ x. Becomes x (rewritten (pool_means c) h s None (c.used - 1))) (sym (dropped-is ∙ ap (λ x. dropped x h s) laid-is)) b
+      subst (λ x. Becomes x (rewritten (pool_means c) h s None (c.used - 1))) (sym (dropped_is ∙ ap (λ x. dropped x h s) laid_is)) b
 
 -- A new pool.
 pub made : (places : List (Place Interval)) (c : Contents Interval) → c ≡ record { index = replicate 600 0; places = places; used = 0; capacity = capacity_of (length places) } → Becomes c (fresh (capacity_of (length places)) 0)

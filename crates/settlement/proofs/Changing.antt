@@ -151,5 +151,5 @@ others_short h k l e =
     let f = λ (i : Interval). i.seconds in
     let all = ap (sum_by f) whole ∙ sum_by-append f before (option_to_list now ++ after) in
     let rest = sum_by-append f (option_to_list now) after in
-    let others-is = ap (sum_by f) (standing_set h.records k None l) ∙ sum_by-append f before after in
-    omega (arith, all, rest, others-is, (within h e).short)
+    let others_is = ap (sum_by f) (standing_set h.records k None l) ∙ sum_by-append f before after in
+    omega (arith, all, rest, others_is, (within h e).short)

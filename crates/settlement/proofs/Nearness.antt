@@ -107,10 +107,10 @@ shared_by_averages h m read full some =
     let each = λ (i : Interval). subst (λ (z : ℤ). nat_abs (pos (2 * k) *ℤ (z *ℤ pos i.seconds) -ℤ pos 7200 *ℤ m *ℤ (i.average *ℤ pos i.seconds)) ≤ k * i.seconds) (share_is h m true i read some)
     (share_near k i.average m _ i.seconds (nearest_near (pos 3600 *ℤ i.average *ℤ m) k above)) in
     let near = sum_ℤ_near (2 * k) (drawn h) (λ i. pos 7200 *ℤ m *ℤ (i.average *ℤ pos i.seconds)) (λ i. k * i.seconds) each (intervals h) in
-    let scaled-sum = sum_ℤ_scale (pos 7200 *ℤ m) (λ (i : Interval). i.average *ℤ pos i.seconds) (intervals h) in
-    let scaled-seconds = sum_by_scale k (λ (i : Interval). i.seconds) (intervals h) ∙ ap (λ n. k * n) full in
-    let moved = subst (λ (n : ℕ). nat_abs (pos (2 * k) *ℤ sum_ℤ (drawn h) (intervals h) -ℤ pos 7200 *ℤ m *ℤ volume h) ≤ n) scaled-seconds
-    (subst (λ (z : ℤ). nat_abs (pos (2 * k) *ℤ sum_ℤ (drawn h) (intervals h) -ℤ z) ≤ sum_by (λ i. k * i.seconds) (intervals h)) scaled-sum near) in
+    let scaled_sum = sum_ℤ_scale (pos 7200 *ℤ m) (λ (i : Interval). i.average *ℤ pos i.seconds) (intervals h) in
+    let scaled_seconds = sum_by_scale k (λ (i : Interval). i.seconds) (intervals h) ∙ ap (λ n. k * n) full in
+    let moved = subst (λ (n : ℕ). nat_abs (pos (2 * k) *ℤ sum_ℤ (drawn h) (intervals h) -ℤ pos 7200 *ℤ m *ℤ volume h) ≤ n) scaled_seconds
+    (subst (λ (z : ℤ). nat_abs (pos (2 * k) *ℤ sum_ℤ (drawn h) (intervals h) -ℤ z) ≤ sum_by (λ i. k * i.seconds) (intervals h)) scaled_sum near) in
     whole_near k (sum_ℤ (drawn h) (intervals h)) m (volume h) above (positive (volume h) some) moved
   where
     positive : (v : ℤ) → lt_z (pos 0) v ≡ true → v ≡ pos (nat_abs v)

@@ -28,8 +28,8 @@ min_scales k a b h = ap (λ t. cond t (pos k *ℤ b) (pos k *ℤ a)) (order_scal
 
 floor_scales : (k : ℕ) (a : ℤ) → 1 ≤ k → int_max (pos 0) (pos k *ℤ a) ≡ pos k *ℤ int_max (pos 0) a
 floor_scales k a h =
-    let zero-scales : pos 0 ≡ pos k *ℤ pos 0 = omega (arith, ints) in
-    ap (λ z. int_max z (pos k *ℤ a)) zero-scales ∙ ap (λ t. cond t (pos k *ℤ pos 0) (pos k *ℤ a)) (order_scales k a (pos 0) h)
+    let zero_scales : pos 0 ≡ pos k *ℤ pos 0 = omega (arith, ints) in
+    ap (λ z. int_max z (pos k *ℤ a)) zero_scales ∙ ap (λ t. cond t (pos k *ℤ pos 0) (pos k *ℤ a)) (order_scales k a (pos 0) h)
     ∙ choice_scales k (int_lt a (pos 0)) (pos 0) a
 
 -- The basis by the three tests that choose the scenario.

@@ -5,7 +5,6 @@ use book::Call;
 use record_store::{Journal, Lent, Pool, Store};
 use settlement::{Edition, Interval, Newer, Schedule};
 use statement::Statement;
-use std::process::Abort;
 use std::test::Fail;
 
 // A call, and the layer, number, hour and slot of its refusal.
@@ -14,20 +13,22 @@ struct Case(Call, (u8, u8, u8, u8));
 
 // Makes the calls in their order, and compares what is told of each answer.
 fn play<E: Edition, S: Store>(
-    rt: &impl Abort,
     statement: &mut Statement<E>,
     store: &mut S,
     cases: &[Case],
-) {
+) -> Result<(), Fail> {
     for Case(call, expected) in cases {
-        assert_eq!(rt; told(&statement.call(store, call)), *expected);
+        if told(&statement.call(store, call)) != *expected {
+            return Err(Fail::new("another answer"));
+        }
     }
+    Ok(())
 }
 
 const DONE: (u8, u8, u8, u8) = (0, 0, 0, 0);
 
 #[test]
-fn each_refusal_of_a_schedule_row_and_of_a_reading(rt: HostRuntime) -> Result<(), Fail> {
+fn each_refusal_of_a_schedule_row_and_of_a_reading() -> Result<(), Fail> {
     let mut places = [PLACE; 24];
     let mut pool = Pool::over(Lent {
         places: &mut places,
@@ -42,7 +43,6 @@ fn each_refusal_of_a_schedule_row_and_of_a_reading(rt: HostRuntime) -> Result<()
         ..ROW
     };
     play(
-        &rt,
         &mut statement,
         &mut pool,
         &[
@@ -68,12 +68,11 @@ fn each_refusal_of_a_schedule_row_and_of_a_reading(rt: HostRuntime) -> Result<()
             Case(unread(23), DONE),
             Case(unread(23), (b'B', 13, 23, 0)),
         ],
-    );
-    Ok(())
+    )
 }
 
 #[test]
-fn each_refusal_of_a_posting_and_of_a_withdrawal(rt: HostRuntime) -> Result<(), Fail> {
+fn each_refusal_of_a_posting_and_of_a_withdrawal() -> Result<(), Fail> {
     let mut places = [PLACE; 24];
     let mut pool = Pool::over(Lent {
         places: &mut places,
@@ -96,7 +95,6 @@ fn each_refusal_of_a_posting_and_of_a_withdrawal(rt: HostRuntime) -> Result<(), 
         ..flagged
     };
     play(
-        &rt,
         &mut statement,
         &mut pool,
         &[
@@ -115,12 +113,11 @@ fn each_refusal_of_a_posting_and_of_a_withdrawal(rt: HostRuntime) -> Result<(), 
             Case(withdraw(22, 0), DONE),
             Case(withdraw(22, 0), (b'B', 13, 22, 0)),
         ],
-    );
-    Ok(())
+    )
 }
 
 #[test]
-fn each_refusal_of_a_question(rt: HostRuntime) -> Result<(), Fail> {
+fn each_refusal_of_a_question() -> Result<(), Fail> {
     let mut places = [PLACE; 24];
     let mut pool = Pool::over(Lent {
         places: &mut places,
@@ -130,7 +127,6 @@ fn each_refusal_of_a_question(rt: HostRuntime) -> Result<(), Fail> {
         Err(_) => return Err(Fail::new("not opened")),
     };
     play(
-        &rt,
         &mut statement,
         &mut pool,
         &[
@@ -145,19 +141,21 @@ fn each_refusal_of_a_question(rt: HostRuntime) -> Result<(), Fail> {
             Case(Call::AskInterval { hour: 24, slot: 9 }, DONE),
             Case(Call::AskDay, DONE),
         ],
-    );
-    Ok(())
+    )
 }
 
 // Posts 24 intervals of 150 seconds to hour 0, which fill the hour and the store.
-fn fill<E: Edition, S: Store>(rt: &impl Abort, statement: &mut Statement<E>, store: &mut S) {
+fn fill<E: Edition, S: Store>(statement: &mut Statement<E>, store: &mut S) -> Result<(), Fail> {
     for slot in 0..24u8 {
-        assert!(rt; statement.post(store, 0, slot, &lasting(150)).is_ok());
+        if statement.post(store, 0, slot, &lasting(150)).is_err() {
+            return Err(Fail::new("an interval is refused"));
+        }
     }
+    Ok(())
 }
 
 #[test]
-fn a_full_store_refuses_last(rt: HostRuntime) -> Result<(), Fail> {
+fn a_full_store_refuses_last() -> Result<(), Fail> {
     let mut places = [PLACE; 24];
     let mut pool = Pool::over(Lent {
         places: &mut places,
@@ -166,9 +164,8 @@ fn a_full_store_refuses_last(rt: HostRuntime) -> Result<(), Fail> {
         Ok(statement) => statement,
         Err(_) => return Err(Fail::new("not opened")),
     };
-    fill(&rt, &mut statement, &mut pool);
+    fill(&mut statement, &mut pool)?;
     play(
-        &rt,
         &mut statement,
         &mut pool,
         &[
@@ -178,12 +175,11 @@ fn a_full_store_refuses_last(rt: HostRuntime) -> Result<(), Fail> {
             Case(withdraw(0, 7), DONE),
             Case(post(1, 7, RECORD), DONE),
         ],
-    );
-    Ok(())
+    )
 }
 
 #[test]
-fn a_full_journal_refuses_a_correction_and_a_withdrawal(rt: HostRuntime) -> Result<(), Fail> {
+fn a_full_journal_refuses_a_correction_and_a_withdrawal() -> Result<(), Fail> {
     let mut places = [ENTRY; 24];
     let mut journal = Journal::over(Lent {
         places: &mut places,
@@ -192,9 +188,8 @@ fn a_full_journal_refuses_a_correction_and_a_withdrawal(rt: HostRuntime) -> Resu
         Ok(statement) => statement,
         Err(_) => return Err(Fail::new("not opened")),
     };
-    fill(&rt, &mut statement, &mut journal);
+    fill(&mut statement, &mut journal)?;
     play(
-        &rt,
         &mut statement,
         &mut journal,
         &[
@@ -203,8 +198,7 @@ fn a_full_journal_refuses_a_correction_and_a_withdrawal(rt: HostRuntime) -> Resu
             Case(withdraw(0, 7), (b'S', 12, 0, 7)),
             Case(withdraw(1, 7), (b'B', 13, 1, 7)),
         ],
-    );
-    Ok(())
+    )
 }
 
 #[test]
@@ -222,7 +216,6 @@ fn records_that_break_a_limit_are_refused_after_the_hour(rt: HostRuntime) -> Res
         "the store looks at no limit"
     );
     play(
-        &rt,
         &mut statement,
         &mut pool,
         &[
@@ -236,6 +229,5 @@ fn records_that_break_a_limit_are_refused_after_the_hour(rt: HostRuntime) -> Res
             Case(Call::AskHour { hour: 3 }, DONE),
             Case(schedule(4, ROW), DONE),
         ],
-    );
-    Ok(())
+    )
 }

@@ -1,7 +1,7 @@
 // An hour as it stands, loaded from its row and the store; and its row rewritten.
 ghost use Rattle.std.specs.Prelude.{◌≡◌, ◌<◌, Some, None, MatchResult};
 ghost use Rattle.book.specs.Lines.{row_of, rewritten};
-ghost use Rattle.book.specs.Outcome.{at_place, outside, unfit, view, standing as standingIn};
+ghost use Rattle.book.specs.Outcome.{at_place, outside, unfit, view, standing as standing_of};
 ghost use Rattle.statement.specs.Accounts.{account};
 
 use crate::day::added_up;
@@ -27,7 +27,7 @@ pub(super) fn placed<T>(answer: Result<T, Refusal>, hour: u8, slot: u8) -> Resul
 impl<E: Edition> Statement<E> {
     // The hour as it stands, if it is one of the day and its records break no limit.
     pub(super) fn load<S: Store>(&self, store: &S, hour: u8, slot: u8) -> Result<Hour, Fault>
-        ensures { MatchResult result (λ h. (unfit (view (account E.Edition S.Store self.now store.now)) hour slot ≡ None) × (h.standing ≡ standingIn self.now.table (S.Store.means store.now) hour) × (hour < 25)) (λ f. unfit (view (account E.Edition S.Store self.now store.now)) hour slot ≡ Some f) }
+        ensures { MatchResult result (λ h. (unfit (view (account E.Edition S.Store self.now store.now)) hour slot ≡ None) × (h.standing ≡ standing_of self.now.table (S.Store.means store.now) hour) × (hour < 25)) (λ f. unfit (view (account E.Edition S.Store self.now store.now)) hour slot ≡ Some f) }
     {
         if hour >= self.table.hours {
             return Err(Fault::NoHour { hour, slot });
