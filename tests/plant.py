@@ -7,9 +7,9 @@
     python3 tests/plant.py --listed         those of tests/plantings.txt alone, --listed=CRATE of one crate
 
 A planting is a block of lines `crate:`, `name:`, `file:`, `old:` (standing once in the file) and `new:`, the last two as
-often as need be; a must-fail edit has the same lines without the first two. What earlier checks on
-this machine kept serves the copy too, so that only what a bug touches is checked again. A bug is *refused* where the check
-fails, and has *survived* where the crate is still proved. The first error is printed with each.
+often as need be; a must-fail edit has the same lines without the first two. What earlier checks on this machine kept serves
+the copy too, so that only what a bug touches is checked again. A bug is *refused* where the check fails, and has *survived*
+where the crate is still proved. The first error is printed with each.
 """
 import re
 import shutil
