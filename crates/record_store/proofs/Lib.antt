@@ -1,3 +1,3 @@
 pub mod Shelves
+pub mod Removing
 pub mod Pools
-pub mod Journals

@@ -4,7 +4,7 @@ ghost use Rattle.record_store.specs.Faults.{figures};
 
 // The first thing that is wrong with a call. Hour and slot are those that the call named, also where they are what is
 // refused.
-#[derive(Clone, Copy)]
+#[derive(Clone, Copy, Debug, PartialEq, Eq)]
 pub enum StoreFault {
     // The memory has fewer or more places than a store may have.
     Places,
@@ -35,9 +35,9 @@ impl StoreFault {
     {
         match self {
             StoreFault::Places => 0,
-            StoreFault::Hour { hour, .. } => hour,
-            StoreFault::Slot { hour, .. } => hour,
-            StoreFault::Full { hour, .. } => hour,
+            StoreFault::Hour { hour, .. }
+            | StoreFault::Slot { hour, .. }
+            | StoreFault::Full { hour, .. } => hour,
         }
     }
 
@@ -47,9 +47,9 @@ impl StoreFault {
     {
         match self {
             StoreFault::Places => 0,
-            StoreFault::Hour { slot, .. } => slot,
-            StoreFault::Slot { slot, .. } => slot,
-            StoreFault::Full { slot, .. } => slot,
+            StoreFault::Hour { slot, .. }
+            | StoreFault::Slot { slot, .. }
+            | StoreFault::Full { slot, .. } => slot,
         }
     }
 }

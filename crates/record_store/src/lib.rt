@@ -3,6 +3,7 @@
 
 mod faults;
 mod journal;
+mod key;
 mod places;
 mod pool;
 mod shelf;
@@ -10,6 +11,6 @@ mod store;
 
 pub use faults::StoreFault;
 pub use journal::Journal;
-pub use places::{Lent, Place, check_places, lend};
+pub use places::{Place, check_places};
 pub use pool::Pool;
 pub use store::Store;

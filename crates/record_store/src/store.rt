@@ -1,28 +1,11 @@
 // What every store does.
-ghost use Rattle.std.specs.Prelude.{◌≡◌, ◌≤◌, Some, MatchResult};
-ghost use Rattle.record_store.specs.Meaning.{Meaning, Lawful, slot_refused, write_refused, take_refused, written, taken, hour_records};
+ghost use Rattle.std.specs.Prelude.{◌≡◌};
+ghost use Rattle.record_store.specs.Meaning.{Meaning, Lawful, write_refused, take_refused, written, taken, hour_records};
 ghost use Rattle.settlement.specs.Rulings.{ruled, changed};
 
 use crate::faults::StoreFault;
 use settlement::Interval;
-
-// The hours of a store, and the slots of an hour.
-pub(crate) const HOURS: u8 = 25;
-
-pub(crate) const SLOTS: u8 = 24;
-
-// Whether a store has that slot of that hour.
-pub(crate) fn check_slot(hour: u8, slot: u8) -> Result<(), StoreFault>
-    ensures { MatchResult result (λ _. (hour ≤ 24) × (slot ≤ 23)) (λ e. slot_refused hour slot ≡ Some e) }
-{
-    if hour >= HOURS {
-        return Err(StoreFault::Hour { hour, slot });
-    }
-    if slot >= SLOTS {
-        return Err(StoreFault::Slot { hour, slot });
-    }
-    Ok(())
-}
+use std::array;
 
 // A store of interval records, one for each slot of each hour. Each call's answer, and the store after it, are told by
 // what the store means.
@@ -57,10 +40,6 @@ pub trait Store {
     fn hour(&self, hour: u8) -> [Option<Interval>; 24]
         ensures { result ≡ hour_records ((means self.now).standing hour) }
     {
-        let mut records = [None; 24];
-        for slot in 0..24u8 {
-            records[slot as usize] = self.read(hour, slot);
-        }
-        records
+        array::from_fn(|slot| self.read(hour, slot as u8))
     }
 }
