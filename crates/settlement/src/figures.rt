@@ -2,7 +2,7 @@
 // hour), amounts in cents. A figure may lie outside its limits until it is checked.
 
 // The parts of a price.
-#[derive(Clone, Copy)]
+#[derive(Clone, Copy, PartialEq, Eq, Debug)]
 pub struct Prices {
     pub energy: i32,
     pub loss: i32,
@@ -10,20 +10,20 @@ pub struct Prices {
 }
 
 // The price of spinning reserve, by region.
-#[derive(Clone, Copy)]
+#[derive(Clone, Copy, PartialEq, Eq, Debug)]
 pub struct SpinPrices {
     pub east: i32,
     pub west: i32,
 }
 
-#[derive(Clone, Copy)]
+#[derive(Clone, Copy, PartialEq, Eq, Debug)]
 pub enum Region {
     East,
     West,
 }
 
 // What an interval's output may be limited to: the two basepoints and the energy limit.
-#[derive(Clone, Copy)]
+#[derive(Clone, Copy, PartialEq, Eq, Debug)]
 pub struct Limits {
     pub rtd: i32,
     pub agc: i32,
@@ -32,7 +32,7 @@ pub struct Limits {
 
 // The record of one interval: its length, the flags under which it ran, its average output, the limits on it, and what
 // was contracted, held in reserve and paid in real time.
-#[derive(Clone, Copy)]
+#[derive(Clone, Copy, PartialEq, Eq, Debug)]
 pub struct Interval {
     pub seconds: u16,
     pub flags: u8,
@@ -45,7 +45,7 @@ pub struct Interval {
 }
 
 // What was sold for an hour the day before.
-#[derive(Clone, Copy)]
+#[derive(Clone, Copy, PartialEq, Eq, Debug)]
 pub struct Schedule {
     pub generation: i32,
     pub transactions: i32,
@@ -54,7 +54,7 @@ pub struct Schedule {
 }
 
 // What stands for an hour: its schedule row, its meter reading, and the record of each of its 24 slots.
-#[derive(Clone, Copy)]
+#[derive(Clone, Copy, PartialEq, Eq, Debug)]
 pub struct Standing {
     pub schedule: Option<Schedule>,
     pub reading: Option<i32>,
@@ -62,7 +62,7 @@ pub struct Standing {
 }
 
 // How many intervals stand in an hour, their seconds, and what their averages come to, in kW seconds.
-#[derive(Clone, Copy)]
+#[derive(Clone, Copy, PartialEq, Eq, Debug)]
 pub struct Tally {
     pub intervals: u8,
     pub seconds: u32,
@@ -70,7 +70,7 @@ pub struct Tally {
 }
 
 // What one interval of a settled hour comes to: its shared kW, its basis and its balance in kW, and its amounts.
-#[derive(Clone, Copy)]
+#[derive(Clone, Copy, PartialEq, Eq, Debug)]
 pub struct IntervalFigures {
     pub adjusted: i64,
     pub basis: i64,
@@ -82,7 +82,7 @@ pub struct IntervalFigures {
 }
 
 // What intervals come to together: balance x seconds in kW seconds, and their amounts.
-#[derive(Clone, Copy)]
+#[derive(Clone, Copy, PartialEq, Eq, Debug)]
 pub struct Sums {
     pub balance: i64,
     pub energy: i64,
@@ -91,14 +91,14 @@ pub struct Sums {
     pub spin: i64,
 }
 
-#[derive(Clone, Copy)]
+#[derive(Clone, Copy, PartialEq, Eq, Debug)]
 pub enum State {
     Settled,
     Unsettled,
 }
 
 // Amounts by component, and what they come to.
-#[derive(Clone, Copy)]
+#[derive(Clone, Copy, PartialEq, Eq, Debug)]
 pub struct Amounts {
     pub energy: i64,
     pub loss: i64,
@@ -107,7 +107,7 @@ pub struct Amounts {
 }
 
 // The line of an hour: what stands in it, what was sold the day before, and what is balanced in real time.
-#[derive(Clone, Copy)]
+#[derive(Clone, Copy, PartialEq, Eq, Debug)]
 pub struct HourLine {
     pub state: State,
     pub intervals: u8,

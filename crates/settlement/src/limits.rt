@@ -20,7 +20,7 @@ const MOST_CENTS: i32 = 1_000_000;
 const ALL_FLAGS: u8 = 127;
 
 // Why figures, a change to an hour or a question about it are refused: the first reason that applies.
-#[derive(Clone, Copy)]
+#[derive(Clone, Copy, PartialEq, Eq, Debug)]
 pub enum Refusal {
     // The slot is above 23.
     Slot,
