@@ -1,5 +1,6 @@
 // The figures of an hour. Powers are in kW, readings in kWh, prices in cents per MWh (for reserve: cents per MW and
 // hour), amounts in cents. A figure may lie outside its limits until it is checked.
+ghost use Rattle.settlement.specs.Regions.{NamesRegion};
 
 // The parts of a price.
 #[derive(Clone, Copy, PartialEq, Eq, Debug)]
@@ -20,6 +21,24 @@ pub struct SpinPrices {
 pub enum Region {
     East,
     West,
+}
+
+// A number that no region goes by.
+#[derive(Clone, Copy, PartialEq, Eq, Debug)]
+pub struct UnknownRegion(pub u8);
+
+impl TryFrom<u8> for Region {
+    type Error = UnknownRegion;
+
+    ghost try_from_gives = { NamesRegion };
+
+    fn try_from(number: u8) -> Result<Region, UnknownRegion> {
+        match number {
+            0 => Ok(Region::East),
+            1 => Ok(Region::West),
+            _ => Err(UnknownRegion(number)),
+        }
+    }
 }
 
 // What an interval's output may be limited to: the two basepoints and the energy limit.
