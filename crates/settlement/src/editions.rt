@@ -58,11 +58,11 @@ impl Scenario {
     pub fn hold(self, adjusted: i64) -> i64
         ensures { result ≡ held self adjusted }
     {
-        match self {
+        match &self {
             Scenario::Free => adjusted,
-            Scenario::Intervention(limit) => adjusted.min(i64::from(limit)),
-            Scenario::Regulating(limit) => adjusted.min(i64::from(limit)),
-            Scenario::Limited(limit) => adjusted.min(i64::from(limit)),
+            Scenario::Intervention(limit)
+            | Scenario::Regulating(limit)
+            | Scenario::Limited(limit) => adjusted.min(i64::from(*limit)),
         }
     }
 }
