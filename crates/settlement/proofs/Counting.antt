@@ -1,5 +1,5 @@
 -- Counting the records of an hour, one place after another.
-use Rattle.std.proofs.Common.{◌≡◌, ℕ, ◌+◌, ◌*◌, ◌<◌, ◌≤◌, List, [], ◌∷◌, ◌++◌, length, get_or, take, drop, pos, ◌+ℤ◌, ◌*ℤ◌, nat_abs, Some, None, Option, sym, refl, ap, ◌∙◌, mul-le-mul, arith, lit≤}
+use Rattle.std.proofs.Common.{◌≡◌, ℕ, ◌+◌, ◌*◌, ◌<◌, ◌≤◌, List, [], ◌∷◌, ◌++◌, length, get_or, take, drop, pos, ◌+ℤ◌, ◌*ℤ◌, nat_abs, Some, None, Option, sym, refl, ap, ◌∙◌, mul-le-mul, arith}
 use Rattle.std.specs.List.{flat_map}
 use Rattle.std.specs.Option.{option_to_list}
 use Rattle.std.proofs.lemmas.List.{length_push, take-append-drop, append-nil}
@@ -42,15 +42,16 @@ pub record Counted (xs : List (Option Interval)) (k : ℕ) (t : Tally) : Type 0 
   pub short : t.seconds ≤ k * 3600
   pub small : nat_abs t.volume ≤ k * 7200000000
 
-pub counted_none : (xs : List (Option Interval)) → Counted xs 0 (record { intervals = 0; seconds = 0; volume = pos 0 })
+pub counted_none : (xs : List (Option Interval)) (t : Tally) → (t.intervals ≡ 0) × ((t.seconds ≡ 0) × (t.volume ≡ pos 0)) → Counted xs 0 t
 unfolding each_refusal
-counted_none xs =
+counted_none xs t zero =
+    let volume = zero.1.1 ∙ sym (sum_ℤ_none (λ (i : Interval). i.average *ℤ pos i.seconds)) in
     record {
-      is = λ k. record { intervals = 0; seconds = 0; volume = sym (sum_ℤ_none (λ (i : Interval). i.average *ℤ pos i.seconds)) k };
+      is = λ k. record { intervals = zero.0 k; seconds = zero.1.0 k; volume = volume k };
       passed = refl;
-      few = lit≤ tt;
-      short = lit≤ tt;
-      small = lit≤ tt;
+      few = omega (arith, zero.0);
+      short = omega (arith, zero.1.0);
+      small = omega (arith, ap nat_abs zero.1.1);
     }
 
 pub counted_empty : (xs : List (Option Interval)) (k : ℕ) (t : Tally) → k < length xs → get_or xs k None ≡ None → Counted xs k t → Counted xs (k + 1) t

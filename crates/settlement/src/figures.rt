@@ -81,7 +81,7 @@ pub struct Standing {
 }
 
 // How many intervals stand in an hour, their seconds, and what their averages come to, in kW seconds.
-#[derive(Clone, Copy, PartialEq, Eq, Debug)]
+#[derive(Clone, Copy, Default, PartialEq, Eq, Debug)]
 pub struct Tally {
     pub intervals: u8,
     pub seconds: u32,
@@ -101,7 +101,7 @@ pub struct IntervalFigures {
 }
 
 // What intervals come to together: balance x seconds in kW seconds, and their amounts.
-#[derive(Clone, Copy, PartialEq, Eq, Debug)]
+#[derive(Clone, Copy, Default, PartialEq, Eq, Debug)]
 pub struct Sums {
     pub balance: i64,
     pub energy: i64,
@@ -117,7 +117,7 @@ pub enum State {
 }
 
 // Amounts by component, and what they come to.
-#[derive(Clone, Copy, PartialEq, Eq, Debug)]
+#[derive(Clone, Copy, Default, PartialEq, Eq, Debug)]
 pub struct Amounts {
     pub energy: i64,
     pub loss: i64,

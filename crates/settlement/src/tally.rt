@@ -45,11 +45,7 @@ impl Tally {
         ensures value { result ≡ ruled (each_refusal (flat_map option_to_list records.now)) (tally_of (flat_map option_to_list records.now)) }
         ensures slots { length records.now ≡ 24 }
     {
-        let mut tally = Tally {
-            intervals: 0,
-            seconds: 0,
-            volume: 0,
-        };
+        let mut tally = Tally::default();
         for record in records {
             if let Some(interval) = record {
                 interval.check()?;

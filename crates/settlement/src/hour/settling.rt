@@ -104,13 +104,7 @@ impl Hour {
         ensures congestion { unsigned_abs result.congestion ≤ 24 * 1206000000000 }
         ensures spin { unsigned_abs result.spin ≤ 24 * 1206000000000 }
     {
-        let mut sums = Sums {
-            balance: 0,
-            energy: 0,
-            loss: 0,
-            congestion: 0,
-            spin: 0,
-        };
+        let mut sums = Sums::default();
         for record in &self.standing.records {
             if let Some(interval) = record {
                 sums.add(
