@@ -6,7 +6,7 @@ ghost use Rattle.settlement.specs.Rulings.{ruled, optional};
 ghost use Rattle.settlement.specs.Limits.{interval_refusal, schedule_refusal, reading_refusal, each_refusal, hour_refusal};
 ghost use Rattle.settlement.specs.Standing.{intervals, tally_of};
 
-use crate::figures::{Interval, Schedule, Standing, Tally};
+use crate::figures::{Interval, Standing, Tally};
 use crate::limits::{Refusal, check_reading};
 
 impl Tally {
@@ -56,26 +56,6 @@ impl Tally {
     }
 }
 
-// The row of an hour, where it has one, within its limits.
-fn check_row(row: &Option<Schedule>) -> Result<(), Refusal>
-    ensures { result ≡ ruled (optional schedule_refusal row.now) tt }
-{
-    match row {
-        Some(row) => row.check(),
-        None => Ok(()),
-    }
-}
-
-// The reading of an hour, where it has one, within its limits.
-fn check_read(reading: Option<i32>) -> Result<(), Refusal>
-    ensures { result ≡ ruled (optional reading_refusal reading) tt }
-{
-    match reading {
-        Some(kwh) => check_reading(kwh),
-        None => Ok(()),
-    }
-}
-
 impl Standing {
     // What stands in the hour, or the first limit that its figures break.
     pub(crate) fn tally(&self) -> Result<Tally, Refusal>
@@ -86,8 +66,12 @@ impl Standing {
         if tally.seconds > 3600 {
             return Err(Refusal::Overfull);
         }
-        check_row(&self.schedule)?;
-        check_read(self.reading)?;
+        if let Some(row) = &self.schedule {
+            row.check()?;
+        }
+        if let Some(kwh) = self.reading {
+            check_reading(kwh)?;
+        }
         Ok(tally)
     }
 }

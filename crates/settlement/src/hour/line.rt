@@ -91,10 +91,7 @@ impl Hour {
     pub fn record(&self, slot: u8) -> Option<Interval>
         ensures { result ≡ slice_index_or self.now.standing.records slot None }
     {
-        match self.standing.records.get(slot as usize) {
-            Some(record) => *record,
-            None => None,
-        }
+        self.standing.records.get(slot as usize).copied().flatten()
     }
 
     // The figures of the interval in a slot.
