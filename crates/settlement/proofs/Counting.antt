@@ -5,7 +5,8 @@ use Rattle.std.specs.Option.{option_to_list}
 use Rattle.std.proofs.lemmas.List.{length_push, take-append-drop, append-nil}
 use Rattle.std.proofs.lemmas.List.Sums.{sum_by_push}
 use Rattle.arithmetic.proofs.Sizes.{abs_sum, abs_product}
-use Rattle.arithmetic.proofs.Sums.{sum_ℤ-push, sum_ℤ_none, standing_more, standing_append}
+use Rattle.arithmetic.proofs.Sums.{sum_ℤ-push, sum_ℤ_none, standing_more}
+use Rattle.std.proofs.lemmas.List.Concat.{flat_map-append}
 use Rattle.settlement.specs.declared.figures.Interval.{Interval}
 use Rattle.settlement.specs.declared.figures.Tally.{Tally}
 use Rattle.settlement.specs.declared.limits.Refusal.{Refusal}
@@ -89,7 +90,7 @@ counted_refused xs k t i r l e bad c =
     let is = flat_map option_to_list (take k xs) in
     let js = flat_map option_to_list (drop (k + 1) xs) in
     let whole : flat_map option_to_list xs ≡ (is ++ i ∷ []) ++ js =
-    ap (flat_map option_to_list) (sym (take-append-drop (k + 1) xs)) ∙ standing_append (take (k + 1) xs) (drop (k + 1) xs)
+    ap (flat_map option_to_list) (sym (take-append-drop (k + 1) xs)) ∙ flat_map-append option_to_list (take (k + 1) xs) (drop (k + 1) xs)
     ∙ ap (λ zs. zs ++ js) (standing_more xs k l ∙ ap (λ o. is ++ option_to_list o) e) in
     let front = refusal_append is (i ∷ []) ∙ first_none (each_refusal is) (each_refusal (i ∷ [])) c.passed ∙ ap (λ o. first o None) bad in
     ap each_refusal whole ∙ refusal_append (is ++ i ∷ []) js ∙ ap (λ o. first o (each_refusal js)) front
