@@ -1,11 +1,12 @@
 -- Sums over a list, and what stands in a list of places.
-use Rattle.std.proofs.Common.{◌≡◌, ℕ, zero, suc, ◌+◌, ◌*◌, ◌<◌, ◌≤◌, List, [], ◌∷◌, ◌++◌, length, get_or, take, drop, set, ℤ, pos, ◌+ℤ◌, ◌-ℤ◌, ◌*ℤ◌, neg_ℤ, nat_abs, ◌≤ℤ◌, Some, None, sum_by, Option, sym, refl, ap, ◌∙◌, subst, append_assoc, arith}
+use Rattle.std.proofs.Common.{◌≡◌, ℕ, zero, suc, ◌+◌, ◌*◌, ◌<◌, ◌≤◌, List, [], ◌∷◌, ◌++◌, length, get_or, take, drop, set, ℤ, pos, ◌+ℤ◌, ◌-ℤ◌, ◌*ℤ◌, neg_ℤ, nat_abs, ◌≤ℤ◌, Some, None, sum_by, Option, sym, refl, ap, ◌∙◌, subst, arith}
 use lib.IntN.{+ℤ_assoc, *ℤ-zero}
 use borrow.Author.Differences.{ints}
-use Rattle.std.specs.List.{flat_map, ContainsAt as Has, AllByRecursion as All}
+use Rattle.std.specs.List.{flat_map, All, AllByRecursion, Contains}
 use Rattle.std.specs.Option.{option_to_list}
 use Rattle.std.proofs.lemmas.List.{take_more, flat_map_more, take-append-drop, set_split}
-use Rattle.std.proofs.ByRecursion.{has_append_left, has_push}
+use Rattle.std.proofs.lemmas.List.Concat.{flat_map-append}
+use Rattle.std.proofs.lemmas.List.Elements.{All-tail, All-from_recursion, Contains-append_left, Contains-push}
 use Rattle.std.proofs.lemmas.List.Sums.{sum_by-cons}
 use Rattle.arithmetic.specs.Sums.{sum_ℤ}
 use Rattle.arithmetic.proofs.Ring.{int, ◌:+◌, ◌:-◌, ◌:*◌, ◌times◌, ring}
@@ -37,29 +38,25 @@ pub standing_more : {A : Type 0} (xs : List (Option A)) (k : ℕ) → k < length
     → flat_map option_to_list (take (k + 1) xs) ≡ flat_map option_to_list (take k xs) ++ option_to_list (get_or xs k None)
 standing_more xs k h = ap (flat_map option_to_list) (take_more xs k None h) ∙ sym (flat_map_more option_to_list [] (take k xs) (get_or xs k None))
 
--- What stands in places one after another.
-pub standing_append : {A : Type 0} (xs ys : List (Option A)) → flat_map option_to_list (xs ++ ys) ≡ flat_map option_to_list xs ++ flat_map option_to_list ys
-standing_append [] ys = refl
-standing_append (x ∷ xs) ys = ap (λ zs. option_to_list x ++ zs) (standing_append xs ys) ∙ sym (append_assoc (option_to_list x) (flat_map option_to_list xs) (flat_map option_to_list ys))
-
 -- A sum of figures that are not negative is not negative, and none of them exceeds it.
 pub sum_ℤ_positive : {A : Type 0} (f : A → ℤ) (xs : List A) → All (λ x. pos 0 ≤ℤ f x) xs → pos 0 ≤ℤ sum_ℤ f xs
 unfolding sum_ℤ
 sum_ℤ_positive f [] h = omega (arith, ints)
-sum_ℤ_positive f (x ∷ xs) h = let p = h.0 in let q = sum_ℤ_positive f xs h.1 in omega (arith, ints)
+sum_ℤ_positive f (x ∷ xs) h = let p = h 0 x (omega arith) in let q = sum_ℤ_positive f xs (All-tail (λ x. pos 0 ≤ℤ f x) x xs h) in omega (arith, ints)
 
 pub sum_ℤ_part : {A : Type 0} (f : A → ℤ) (xs : List A) (k : ℕ) (d : A) → k < length xs → All (λ x. pos 0 ≤ℤ f x) xs → f (get_or xs k d) ≤ℤ sum_ℤ f xs
 unfolding sum_ℤ
 sum_ℤ_part f [] k d l h = absurd (omega arith)
-sum_ℤ_part f (x ∷ xs) zero d l h = let q = sum_ℤ_positive f xs h.1 in omega (arith, ints)
-sum_ℤ_part f (x ∷ xs) (suc k) d l h = let p = h.0 in let q = sum_ℤ_part f xs k d (omega arith) h.1 in omega (arith, ints)
+sum_ℤ_part f (x ∷ xs) zero d l h = let q = sum_ℤ_positive f xs (All-tail (λ x. pos 0 ≤ℤ f x) x xs h) in omega (arith, ints)
+sum_ℤ_part f (x ∷ xs) (suc k) d l h =
+    let p = h 0 x (omega arith) in let q = sum_ℤ_part f xs k d (omega arith) (All-tail (λ x. pos 0 ≤ℤ f x) x xs h) in omega (arith, ints)
 
-pub standing_has : {A : Type 0} (xs : List (Option A)) (k : ℕ) (x : A) → k < length xs → get_or xs k None ≡ Some x → Has (flat_map option_to_list xs) x
+pub standing_has : {A : Type 0} (xs : List (Option A)) (k : ℕ) (x : A) → k < length xs → get_or xs k None ≡ Some x → Contains (flat_map option_to_list xs) x
 standing_has xs k x l e =
     let whole : flat_map option_to_list xs ≡ (flat_map option_to_list (take k xs) ++ x ∷ []) ++ flat_map option_to_list (drop (k + 1) xs) =
-    ap (flat_map option_to_list) (sym (take-append-drop (k + 1) xs)) ∙ standing_append (take (k + 1) xs) (drop (k + 1) xs)
+    ap (flat_map option_to_list) (sym (take-append-drop (k + 1) xs)) ∙ flat_map-append option_to_list (take (k + 1) xs) (drop (k + 1) xs)
     ∙ ap (λ zs. zs ++ flat_map option_to_list (drop (k + 1) xs)) (standing_more xs k l ∙ ap (λ o. flat_map option_to_list (take k xs) ++ option_to_list o) e) in
-    subst (λ zs. Has zs x) (sym whole) (has_append_left (flat_map option_to_list (take k xs) ++ x ∷ []) (flat_map option_to_list (drop (k + 1) xs)) x (has_push (flat_map option_to_list (take k xs)) x))
+    subst (λ zs. Contains zs x) (sym whole) (Contains-append_left (flat_map option_to_list (take k xs) ++ x ∷ []) (flat_map option_to_list (drop (k + 1) xs)) x (Contains-push (flat_map option_to_list (take k xs)) x))
 
 -- A place in which something stands is there.
 pub standing_place : {A : Type 0} (xs : List (Option A)) (k : ℕ) (x : A) → get_or xs k None ≡ Some x → k < length xs
@@ -93,10 +90,14 @@ unfolding sum_ℤ
 sum_ℤ-append f [] ys = omega (arith, ints)
 sum_ℤ-append f (x ∷ xs) ys = ap (λ z. f x +ℤ z) (sum_ℤ-append f xs ys) ∙ sym (+ℤ_assoc (f x) (sum_ℤ f xs) (sum_ℤ f ys))
 
-pub sum_ℤ_size : {A : Type 0} (f : A → ℤ) (n : ℕ) (xs : List A) → All (λ x. nat_abs (f x) ≤ n) xs → nat_abs (sum_ℤ f xs) ≤ length xs * n
+pub sum_ℤ-le : {A : Type 0} (f : A → ℤ) (n : ℕ) (xs : List A) → All (λ x. nat_abs (f x) ≤ n) xs → nat_abs (sum_ℤ f xs) ≤ length xs * n
 unfolding sum_ℤ
-sum_ℤ_size f n [] h = omega arith
-sum_ℤ_size f n (x ∷ xs) h = omega (arith, abs_sum (f x) (sum_ℤ f xs), h.0, sum_ℤ_size f n xs h.1)
+sum_ℤ-le f n [] h = omega arith
+sum_ℤ-le f n (x ∷ xs) h = omega (arith, abs_sum (f x) (sum_ℤ f xs), h 0 x (omega arith), sum_ℤ-le f n xs (All-tail (λ x. nat_abs (f x) ≤ n) x xs h))
+
+-- The same from the fact by recursion.
+pub sum_ℤ_size : {A : Type 0} (f : A → ℤ) (n : ℕ) (xs : List A) → AllByRecursion (λ x. nat_abs (f x) ≤ n) xs → nat_abs (sum_ℤ f xs) ≤ length xs * n
+sum_ℤ_size f n xs h = sum_ℤ-le f n xs (All-from_recursion (λ x. nat_abs (f x) ≤ n) xs h)
 
 -- No more stands than there are places.
 pub standing_length : {A : Type 0} (xs : List (Option A)) → length (flat_map option_to_list xs) ≤ length xs
@@ -107,4 +108,4 @@ standing_length (Some x ∷ xs) = let l = standing_length xs in omega arith
 -- What stands where one place was rewritten, around that place.
 pub standing_set : {A : Type 0} (xs : List (Option A)) (k : ℕ) (o : Option A) → k < length xs
     → flat_map option_to_list (set xs k o) ≡ flat_map option_to_list (take k xs) ++ (option_to_list o ++ flat_map option_to_list (drop (suc k) xs))
-standing_set xs k o l = ap (flat_map option_to_list) (set_split xs k o l) ∙ standing_append (take k xs) (o ∷ drop (suc k) xs)
+standing_set xs k o l = ap (flat_map option_to_list) (set_split xs k o l) ∙ flat_map-append option_to_list (take k xs) (o ∷ drop (suc k) xs)

@@ -2,15 +2,15 @@
 -- what is counted in it changes by that figure alone.
 use Rattle.std.proofs.Common.{◌≡◌, ℕ, suc, ◌+◌, ◌*◌, ◌<◌, ◌≤◌, false, List, [], ◌∷◌, ◌++◌, length, get_or, take, drop, set, ℤ, pos, ◌+ℤ◌, ◌-ℤ◌, ◌*ℤ◌, nat_abs, is_some, Some, None, sum_by, Option, sym, refl, ap, ◌∙◌, subst, mul-le-mul, arith}
 use borrow.Author.Differences.{ints}
-use Rattle.std.specs.List.{flat_map, ContainsAt as Has, AllByRecursion as All}
+use Rattle.std.specs.List.{flat_map, All, Contains}
 use Rattle.std.specs.Option.{option_to_list}
-use Rattle.std.proofs.ByRecursion.{All-append, All-weaker, sum_by_le}
+use Rattle.std.proofs.lemmas.List.Elements.{All-nil, All-cons, All-head, All-tail, All-append, All-weaker}
 use Rattle.std.proofs.lemmas.List.{length-append, set-get_or}
-use Rattle.std.proofs.lemmas.List.Sums.{sum_by-append, sum_by-cons, get_or-le-sum_by}
+use Rattle.std.proofs.lemmas.List.Sums.{sum_by-append, sum_by-cons, sum_by-le, get_or-le-sum_by}
 use Rattle.std.proofs.lemmas.Bool.{le-leb}
 use Rattle.arithmetic.specs.Sums.{sum_ℤ}
 use Rattle.arithmetic.proofs.Sizes.{abs_product}
-use Rattle.arithmetic.proofs.Sums.{sum_ℤ-append, sum_ℤ_size, standing_set, standing_length}
+use Rattle.arithmetic.proofs.Sums.{sum_ℤ-append, sum_ℤ-le, standing_set, standing_length}
 use Rattle.settlement.specs.declared.figures.Interval.{Interval}
 use Rattle.settlement.specs.declared.figures.Schedule.{Schedule}
 use Rattle.settlement.specs.declared.figures.Standing.{Standing}
@@ -28,7 +28,7 @@ use Rattle.settlement.proofs.Within.{Fair, Within, within}
 fair_all : (is : List Interval) → All Fair is → each_refusal is ≡ None
 unfolding each_refusal
 fair_all [] h = refl
-fair_all (i ∷ is) h = first_none (interval_refusal i) (each_refusal is) h.0 ∙ fair_all is h.1
+fair_all (i ∷ is) h = first_none (interval_refusal i) (each_refusal is) (All-head Fair i is h) ∙ fair_all is (All-tail Fair i is h)
 
 pub hour_within : (h : Standing) → Within h → is_some (hour_refusal h) ≡ false
 hour_within h w = rw (fair_all (intervals h) w.fair, le-leb (seconds h) 3600 w.short, w.schedule, w.reading)
@@ -40,8 +40,8 @@ row_within h row e ok =
 
 -- ---- one record
 fair_one_of : (o : Option Interval) → optional interval_refusal o ≡ None → All Fair (option_to_list o)
-fair_one_of None e = tt
-fair_one_of (Some i) e = (e, tt)
+fair_one_of None e = All-nil Fair
+fair_one_of (Some i) e = All-cons Fair i [] e (All-nil Fair)
 
 -- The records around a slot are within their limits, and so are they with another in it.
 pub fair_around : (xs : List (Option Interval)) (k : ℕ) (o : Option Interval) → k < length xs → All Fair (flat_map option_to_list xs) → optional interval_refusal o ≡ None → All Fair (flat_map option_to_list (set xs k o))
@@ -52,8 +52,8 @@ fair_around xs k o l h e =
     subst (All Fair) (sym (standing_set xs k o l)) (All-append Fair (flat_map option_to_list (take k xs)) _ parts.0 (All-append Fair (option_to_list o) (flat_map option_to_list (drop (suc k) xs)) (fair_one_of o e) rest.1))
   where
     all_split : (is js : List Interval) → All Fair (is ++ js) → All Fair is × All Fair js
-    all_split [] js h = (tt, h)
-    all_split (i ∷ is) js h = let p = all_split is js h.1 in ((h.0, p.0), p.1)
+    all_split [] js h = (All-nil Fair, h)
+    all_split (i ∷ is) js h = let p = all_split is js (All-tail Fair i (is ++ js) h) in (All-cons Fair i is (All-head Fair i (is ++ js) h) p.0, p.1)
 
 pub record_within : (h : Standing) (k : ℕ) (o : Option Interval) → k < length h.records → is_some (hour_refusal h) ≡ false → optional interval_refusal o ≡ None
     → seconds (with_record h k o) ≤ 3600 → is_some (hour_refusal (with_record h k o)) ≡ false
@@ -126,9 +126,9 @@ pub tally_small : (xs : List (Option Interval)) (t : Tally) → length xs ≡ 24
 tally_small xs t n h e =
     let is = flat_map option_to_list xs in
     let few = standing_length xs in
-    let short = sum_by_le (λ (i : Interval). i.seconds) 3600 is (All-weaker Fair (λ i. i.seconds ≤ 3600) (λ i f. (sound i f).most) is h) in
+    let short = sum_by-le (λ (i : Interval). i.seconds) 3600 is (All-weaker Fair (λ i. i.seconds ≤ 3600) (λ i f. (sound i f).most) is h) in
     let sizes = All-weaker Fair (λ i. nat_abs (energy i) ≤ 7200000000) (λ i f. let s = sound i f in omega (arith, abs_product i.average (pos i.seconds), mul-le-mul s.average.size s.most)) is h in
-    let volume = sum_ℤ_size energy 7200000000 is sizes in
+    let volume = sum_ℤ-le energy 7200000000 is sizes in
     record {
       few = omega (arith, ap (λ (t : Tally). t.intervals) e, few, n);
       short = omega (arith, ap (λ (t : Tally). t.seconds) e, short, few, n);
@@ -136,10 +136,10 @@ tally_small xs t n h e =
     }
 
 -- No interval is longer than all those of its hour.
-pub seconds_part : (h : Standing) (i : Interval) → Has (intervals h) i → i.seconds ≤ seconds h
+pub seconds_part : (h : Standing) (i : Interval) → Contains (intervals h) i → i.seconds ≤ seconds h
 seconds_part h i one =
     let part = get_or-le-sum_by (λ (i : Interval). i.seconds) (intervals h) one.0 i one.1 in
-    omega (arith, ap (λ (j : Interval). j.seconds) (one.2 i), part)
+    omega (arith, ap (λ (j : Interval). j.seconds) one.2, part)
 
 -- The other slots of an hour hold no more seconds than all of them.
 pub others_short : (h : Standing) (k : ℕ) → k < length h.records → is_some (hour_refusal h) ≡ false → others h k ≤ 3600

@@ -1,11 +1,12 @@
 -- Counting the records of an hour, one place after another.
-use Rattle.std.proofs.Common.{◌≡◌, ℕ, ◌+◌, ◌*◌, ◌<◌, ◌≤◌, List, [], ◌∷◌, ◌++◌, length, get_or, take, drop, pos, ◌+ℤ◌, ◌*ℤ◌, nat_abs, Some, None, Option, sym, refl, ap, ◌∙◌, mul-le-mul, arith, lit≤}
+use Rattle.std.proofs.Common.{◌≡◌, ℕ, ◌+◌, ◌*◌, ◌<◌, ◌≤◌, List, [], ◌∷◌, ◌++◌, length, get_or, take, drop, pos, ◌+ℤ◌, ◌*ℤ◌, nat_abs, Some, None, Option, sym, refl, ap, ◌∙◌, mul-le-mul, arith}
 use Rattle.std.specs.List.{flat_map}
 use Rattle.std.specs.Option.{option_to_list}
 use Rattle.std.proofs.lemmas.List.{length_push, take-append-drop, append-nil}
 use Rattle.std.proofs.lemmas.List.Sums.{sum_by_push}
 use Rattle.arithmetic.proofs.Sizes.{abs_sum, abs_product}
-use Rattle.arithmetic.proofs.Sums.{sum_ℤ-push, sum_ℤ_none, standing_more, standing_append}
+use Rattle.arithmetic.proofs.Sums.{sum_ℤ-push, sum_ℤ_none, standing_more}
+use Rattle.std.proofs.lemmas.List.Concat.{flat_map-append}
 use Rattle.settlement.specs.declared.figures.Interval.{Interval}
 use Rattle.settlement.specs.declared.figures.Tally.{Tally}
 use Rattle.settlement.specs.declared.limits.Refusal.{Refusal}
@@ -42,15 +43,16 @@ pub record Counted (xs : List (Option Interval)) (k : ℕ) (t : Tally) : Type 0 
   pub short : t.seconds ≤ k * 3600
   pub small : nat_abs t.volume ≤ k * 7200000000
 
-pub counted_none : (xs : List (Option Interval)) → Counted xs 0 (record { intervals = 0; seconds = 0; volume = pos 0 })
+pub counted_none : (xs : List (Option Interval)) (t : Tally) → (t.intervals ≡ 0) × ((t.seconds ≡ 0) × (t.volume ≡ pos 0)) → Counted xs 0 t
 unfolding each_refusal
-counted_none xs =
+counted_none xs t zero =
+    let volume = zero.1.1 ∙ sym (sum_ℤ_none (λ (i : Interval). i.average *ℤ pos i.seconds)) in
     record {
-      is = λ k. record { intervals = 0; seconds = 0; volume = sym (sum_ℤ_none (λ (i : Interval). i.average *ℤ pos i.seconds)) k };
+      is = λ k. record { intervals = zero.0 k; seconds = zero.1.0 k; volume = volume k };
       passed = refl;
-      few = lit≤ tt;
-      short = lit≤ tt;
-      small = lit≤ tt;
+      few = omega (arith, zero.0);
+      short = omega (arith, zero.1.0);
+      small = omega (arith, ap nat_abs zero.1.1);
     }
 
 pub counted_empty : (xs : List (Option Interval)) (k : ℕ) (t : Tally) → k < length xs → get_or xs k None ≡ None → Counted xs k t → Counted xs (k + 1) t
@@ -88,7 +90,7 @@ counted_refused xs k t i r l e bad c =
     let is = flat_map option_to_list (take k xs) in
     let js = flat_map option_to_list (drop (k + 1) xs) in
     let whole : flat_map option_to_list xs ≡ (is ++ i ∷ []) ++ js =
-    ap (flat_map option_to_list) (sym (take-append-drop (k + 1) xs)) ∙ standing_append (take (k + 1) xs) (drop (k + 1) xs)
+    ap (flat_map option_to_list) (sym (take-append-drop (k + 1) xs)) ∙ flat_map-append option_to_list (take (k + 1) xs) (drop (k + 1) xs)
     ∙ ap (λ zs. zs ++ js) (standing_more xs k l ∙ ap (λ o. is ++ option_to_list o) e) in
     let front = refusal_append is (i ∷ []) ∙ first_none (each_refusal is) (each_refusal (i ∷ [])) c.passed ∙ ap (λ o. first o None) bad in
     ap each_refusal whole ∙ refusal_append (is ++ i ∷ []) js ∙ ap (λ o. first o (each_refusal js)) front

@@ -21,8 +21,8 @@ pub record Sum (f : Interval → ℤ) (B : ℕ) (xs : List (Option Interval)) (k
   pub size : nat_abs s ≤ k * B
 
 module _ (f : Interval → ℤ) (B : ℕ) (xs : List (Option Interval)) where
-  pub sum_none : Sum f B xs 0 (pos 0)
-  sum_none = record { is = sym (sum_ℤ_none f); size = omega arith }
+  pub sum_none : (s : ℤ) → s ≡ pos 0 → Sum f B xs 0 s
+  sum_none s zero = record { is = zero ∙ sym (sum_ℤ_none f); size = omega (arith, ap nat_abs zero) }
 
   pub sum_empty : (k : ℕ) (s : ℤ) → k < length xs → get_or xs k None ≡ None → Sum f B xs k s → Sum f B xs (k + 1) s
   sum_empty k s l e c =
@@ -45,14 +45,14 @@ pub record Summed (e : Terms) (r : Region) (g : Schedule) (h : Standing) (k : �
   pub congestion : Sum (λ i. (figures e r g h i).congestion) 1206000000000 h.records k s.congestion
   pub spin : Sum (λ i. (figures e r g h i).spin) 1206000000000 h.records k s.spin
 
-pub summed_none : (e : Terms) (r : Region) (g : Schedule) (h : Standing) → Summed e r g h 0 no_sums
-summed_none e r g h =
+pub summed_none : (e : Terms) (r : Region) (g : Schedule) (h : Standing) (s : Sums) → s ≡ no_sums → Summed e r g h 0 s
+summed_none e r g h s zero =
     record {
-      balance = sum_none _ 4341600000000 h.records;
-      energy = sum_none _ 1206000000000 h.records;
-      loss = sum_none _ 1206000000000 h.records;
-      congestion = sum_none _ 1206000000000 h.records;
-      spin = sum_none _ 1206000000000 h.records;
+      balance = sum_none _ 4341600000000 h.records s.balance (ap (λ (s : Sums). s.balance) zero);
+      energy = sum_none _ 1206000000000 h.records s.energy (ap (λ (s : Sums). s.energy) zero);
+      loss = sum_none _ 1206000000000 h.records s.loss (ap (λ (s : Sums). s.loss) zero);
+      congestion = sum_none _ 1206000000000 h.records s.congestion (ap (λ (s : Sums). s.congestion) zero);
+      spin = sum_none _ 1206000000000 h.records s.spin (ap (λ (s : Sums). s.spin) zero);
     }
 
 module _ (e : Terms) (r : Region) (g : Schedule) (h : Standing) (k : ℕ) (s : Sums) (c : Summed e r g h k s) (l : k < length h.records) where

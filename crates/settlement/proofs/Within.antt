@@ -1,8 +1,8 @@
 -- What is known of the figures of an hour that breaks no limit.
 use Rattle.std.proofs.Common.{◌≡◌, ℕ, ◌*◌, ◌≤◌, Bool, true, false, cond, eqb, leb, List, [], ◌∷◌, ℤ, pos, negsuc, ◌*ℤ◌, nat_abs, ◌≤ℤ◌, is_some, Some, None, Option, sym, ap, ◌∙◌, subst, mul-le-mul_left, arith}
 use borrow.Author.Differences.{ints}
-use Rattle.std.specs.List.{ContainsAt as Has, AllByRecursion as All}
-use Rattle.std.proofs.ByRecursion.{all-has, All-weaker}
+use Rattle.std.specs.List.{All, Contains}
+use Rattle.std.proofs.lemmas.List.Elements.{All-nil, All-cons, All-weaker, All-contains}
 use Rattle.std.proofs.lemmas.Bool.{leb-true}
 use Rattle.arithmetic.proofs.Sums.{sum_ℤ_positive, sum_ℤ_part}
 use Rattle.settlement.specs.declared.figures.Interval.{Interval}
@@ -21,8 +21,8 @@ Fair i = interval_refusal i ≡ None
 
 all_fair : (is : List Interval) → each_refusal is ≡ None → All Fair is
 unfolding each_refusal
-all_fair [] e = tt
-all_fair (i ∷ is) e = let p = neither (interval_refusal i) (each_refusal is) e in (p.0, all_fair is p.1)
+all_fair [] e = All-nil Fair
+all_fair (i ∷ is) e = let p = neither (interval_refusal i) (each_refusal is) e in All-cons Fair i is p.0 (all_fair is p.1)
 
 pub record Within (h : Standing) : Type 0 where
   pub fair : All Fair (intervals h)
@@ -46,10 +46,10 @@ settling_row h g e = of_two (eqb (seconds h) 3600) h.schedule e
     of_two true o e = sym e
     of_two false o e = let z : ◌≡◌ {A = ℕ} 0 1 = cc in absurd (omega arith)
 
-pub fair_one : (h : Standing) (i : Interval) → Within h → Has (intervals h) i → interval_refusal i ≡ None
-fair_one h i w one = all-has Fair (intervals h) i w.fair one
+pub fair_one : (h : Standing) (i : Interval) → Within h → Contains (intervals h) i → interval_refusal i ≡ None
+fair_one h i w one = All-contains Fair (intervals h) i w.fair one
 
-pub sound_one : (h : Standing) (i : Interval) → Within h → Has (intervals h) i → Sound i
+pub sound_one : (h : Standing) (i : Interval) → Within h → Contains (intervals h) i → Sound i
 sound_one h i w one = sound i (fair_one h i w one)
 
 pub row_fair : (h : Standing) (g : Schedule) → Within h → h.schedule ≡ Some g → schedule_refusal g ≡ None
@@ -71,10 +71,10 @@ energies h w =
 pub volume_positive : (h : Standing) → Within h → pos 0 ≤ℤ volume h
 volume_positive h w = sum_ℤ_positive (λ (i : Interval). i.average *ℤ pos i.seconds) (intervals h) (energies h w)
 
-pub volume_part : (h : Standing) (i : Interval) → Within h → Has (intervals h) i → 6 * nat_abs i.average ≤ nat_abs (volume h)
+pub volume_part : (h : Standing) (i : Interval) → Within h → Contains (intervals h) i → 6 * nat_abs i.average ≤ nat_abs (volume h)
 volume_part h i w one =
     let part = sum_ℤ_part (λ (i : Interval). i.average *ℤ pos i.seconds) (intervals h) one.0 i one.1 (energies h w) in
-    let at : (i.average *ℤ pos i.seconds) ≤ℤ volume h = subst (λ (j : Interval). (j.average *ℤ pos j.seconds) ≤ℤ volume h) (one.2 i) part in
+    let at : (i.average *ℤ pos i.seconds) ≤ℤ volume h = subst (λ (j : Interval). (j.average *ℤ pos j.seconds) ≤ℤ volume h) one.2 part in
     let s = sound_one h i w one in
     sixfold i.average i.seconds (volume h) s.average.low s.least at
   where

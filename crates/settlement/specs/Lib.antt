@@ -8,3 +8,4 @@ pub mod Nearness
 pub mod Bounds
 pub mod Worked
 pub mod Laws
+pub mod Regions

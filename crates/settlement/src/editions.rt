@@ -9,14 +9,14 @@ use crate::flags;
 use crate::flags::has;
 
 // The sign with which congestion is shown: as its price gives it, or negated.
-#[derive(Clone, Copy)]
+#[derive(Clone, Copy, PartialEq, Eq, Debug)]
 pub enum Sign {
     Plus,
     Minus,
 }
 
 // The case that an interval falls under, with the limit that its adjusted energy is held to.
-#[derive(Clone, Copy)]
+#[derive(Clone, Copy, PartialEq, Eq, Debug)]
 pub enum Scenario {
     // A large event reserve pickup, fixed under PURPA, out of merit for reliability, or wind that is not limited.
     Free,
@@ -58,11 +58,11 @@ impl Scenario {
     pub fn hold(self, adjusted: i64) -> i64
         ensures { result ≡ held self adjusted }
     {
-        match self {
+        match &self {
             Scenario::Free => adjusted,
-            Scenario::Intervention(limit) => adjusted.min(i64::from(limit)),
-            Scenario::Regulating(limit) => adjusted.min(i64::from(limit)),
-            Scenario::Limited(limit) => adjusted.min(i64::from(limit)),
+            Scenario::Intervention(limit)
+            | Scenario::Regulating(limit)
+            | Scenario::Limited(limit) => adjusted.min(i64::from(*limit)),
         }
     }
 }
@@ -82,7 +82,7 @@ pub trait Edition {
 }
 
 // The newer edition: the scenarios as they are, and congestion negated.
-#[derive(Clone, Copy)]
+#[derive(Clone, Copy, PartialEq, Eq, Debug)]
 pub struct Newer;
 
 impl Edition for Newer {
@@ -100,7 +100,7 @@ impl Edition for Newer {
 }
 
 // The older edition: a negative basis is raised to zero, and congestion is as its price gives it.
-#[derive(Clone, Copy)]
+#[derive(Clone, Copy, PartialEq, Eq, Debug)]
 pub struct Older;
 
 impl Edition for Older {

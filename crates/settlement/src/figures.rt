@@ -1,8 +1,9 @@
 // The figures of an hour. Powers are in kW, readings in kWh, prices in cents per MWh (for reserve: cents per MW and
 // hour), amounts in cents. A figure may lie outside its limits until it is checked.
+ghost use Rattle.settlement.specs.Regions.{NamesRegion};
 
 // The parts of a price.
-#[derive(Clone, Copy)]
+#[derive(Clone, Copy, PartialEq, Eq, Debug)]
 pub struct Prices {
     pub energy: i32,
     pub loss: i32,
@@ -10,20 +11,38 @@ pub struct Prices {
 }
 
 // The price of spinning reserve, by region.
-#[derive(Clone, Copy)]
+#[derive(Clone, Copy, PartialEq, Eq, Debug)]
 pub struct SpinPrices {
     pub east: i32,
     pub west: i32,
 }
 
-#[derive(Clone, Copy)]
+#[derive(Clone, Copy, PartialEq, Eq, Debug)]
 pub enum Region {
     East,
     West,
 }
 
+// A number that no region goes by.
+#[derive(Clone, Copy, PartialEq, Eq, Debug)]
+pub struct UnknownRegion(pub u8);
+
+impl TryFrom<u8> for Region {
+    type Error = UnknownRegion;
+
+    ghost try_from_gives = { NamesRegion };
+
+    fn try_from(number: u8) -> Result<Region, UnknownRegion> {
+        match number {
+            0 => Ok(Region::East),
+            1 => Ok(Region::West),
+            _ => Err(UnknownRegion(number)),
+        }
+    }
+}
+
 // What an interval's output may be limited to: the two basepoints and the energy limit.
-#[derive(Clone, Copy)]
+#[derive(Clone, Copy, PartialEq, Eq, Debug)]
 pub struct Limits {
     pub rtd: i32,
     pub agc: i32,
@@ -32,7 +51,7 @@ pub struct Limits {
 
 // The record of one interval: its length, the flags under which it ran, its average output, the limits on it, and what
 // was contracted, held in reserve and paid in real time.
-#[derive(Clone, Copy)]
+#[derive(Clone, Copy, PartialEq, Eq, Debug)]
 pub struct Interval {
     pub seconds: u16,
     pub flags: u8,
@@ -45,7 +64,7 @@ pub struct Interval {
 }
 
 // What was sold for an hour the day before.
-#[derive(Clone, Copy)]
+#[derive(Clone, Copy, PartialEq, Eq, Debug)]
 pub struct Schedule {
     pub generation: i32,
     pub transactions: i32,
@@ -54,7 +73,7 @@ pub struct Schedule {
 }
 
 // What stands for an hour: its schedule row, its meter reading, and the record of each of its 24 slots.
-#[derive(Clone, Copy)]
+#[derive(Clone, Copy, PartialEq, Eq, Debug)]
 pub struct Standing {
     pub schedule: Option<Schedule>,
     pub reading: Option<i32>,
@@ -62,7 +81,7 @@ pub struct Standing {
 }
 
 // How many intervals stand in an hour, their seconds, and what their averages come to, in kW seconds.
-#[derive(Clone, Copy)]
+#[derive(Clone, Copy, Default, PartialEq, Eq, Debug)]
 pub struct Tally {
     pub intervals: u8,
     pub seconds: u32,
@@ -70,7 +89,7 @@ pub struct Tally {
 }
 
 // What one interval of a settled hour comes to: its shared kW, its basis and its balance in kW, and its amounts.
-#[derive(Clone, Copy)]
+#[derive(Clone, Copy, PartialEq, Eq, Debug)]
 pub struct IntervalFigures {
     pub adjusted: i64,
     pub basis: i64,
@@ -82,7 +101,7 @@ pub struct IntervalFigures {
 }
 
 // What intervals come to together: balance x seconds in kW seconds, and their amounts.
-#[derive(Clone, Copy)]
+#[derive(Clone, Copy, Default, PartialEq, Eq, Debug)]
 pub struct Sums {
     pub balance: i64,
     pub energy: i64,
@@ -91,14 +110,14 @@ pub struct Sums {
     pub spin: i64,
 }
 
-#[derive(Clone, Copy)]
+#[derive(Clone, Copy, PartialEq, Eq, Debug)]
 pub enum State {
     Settled,
     Unsettled,
 }
 
 // Amounts by component, and what they come to.
-#[derive(Clone, Copy)]
+#[derive(Clone, Copy, Default, PartialEq, Eq, Debug)]
 pub struct Amounts {
     pub energy: i64,
     pub loss: i64,
@@ -107,7 +126,7 @@ pub struct Amounts {
 }
 
 // The line of an hour: what stands in it, what was sold the day before, and what is balanced in real time.
-#[derive(Clone, Copy)]
+#[derive(Clone, Copy, PartialEq, Eq, Debug)]
 pub struct HourLine {
     pub state: State,
     pub intervals: u8,

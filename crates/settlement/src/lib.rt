@@ -14,7 +14,7 @@ mod worked;
 pub use editions::{Edition, Newer, Older, Scenario, Sign};
 pub use figures::{
     Amounts, HourLine, Interval, IntervalFigures, Limits, Prices, Region, Schedule, SpinPrices,
-    Standing, State,
+    Standing, State, UnknownRegion,
 };
 pub use hour::Hour;
 pub use limits::{Refusal, check_reading};

@@ -1,7 +1,7 @@
 // The limits of the figures, and which of them is broken first.
 ghost use Rattle.std.specs.Prelude.{◌≡◌};
 ghost use Rattle.settlement.specs.Rulings.{ruled};
-ghost use Rattle.settlement.specs.Limits.{fits_power, fits_basepoint, fits_price, fits_prices, fits_flags, fits_limits, fits_length, fits_sold, fits_powers, fits_real_time_prices, interval_refusal, schedule_refusal, reading_refusal, number as number_of};
+ghost use Rattle.settlement.specs.Limits.{between, fits_prices, fits_flags, fits_limits, fits_sold, fits_powers, fits_real_time_prices, interval_refusal, schedule_refusal, reading_refusal, number as number_of};
 
 use crate::figures::{Interval, Limits, Prices, Schedule};
 use crate::flags;
@@ -17,10 +17,27 @@ const MOST_KW: i32 = 2_000_000;
 // The largest price, in cents.
 const MOST_CENTS: i32 = 1_000_000;
 
+// An output, a transaction, a reserve or a reading.
+const POWER: Span = Span {
+    low: 0,
+    high: MOST_KW,
+};
+
+// A basepoint or an energy limit, which may be negative.
+const BASEPOINT: Span = Span {
+    low: -MOST_KW,
+    high: MOST_KW,
+};
+
+const PRICE: Span = Span {
+    low: -MOST_CENTS,
+    high: MOST_CENTS,
+};
+
 const ALL_FLAGS: u8 = 127;
 
 // Why figures, a change to an hour or a question about it are refused: the first reason that applies.
-#[derive(Clone, Copy)]
+#[derive(Clone, Copy, PartialEq, Eq, Debug)]
 pub enum Refusal {
     // The slot is above 23.
     Slot,
@@ -58,28 +75,20 @@ impl Refusal {
     }
 }
 
-fn is_length(seconds: u16) -> bool
-    ensures { result ≡ fits_length seconds }
-{
-    seconds >= LEAST_SECONDS && seconds <= MOST_SECONDS
+// What a figure may be, from a lowest to a highest number. The library's `low..=high` would say it too, but can't be a
+// constant.
+#[derive(Clone, Copy)]
+struct Span {
+    low: i32,
+    high: i32,
 }
 
-fn is_power(kw: i32) -> bool
-    ensures { result ≡ fits_power kw }
-{
-    kw >= 0 && kw <= MOST_KW
-}
-
-fn is_basepoint(kw: i32) -> bool
-    ensures { result ≡ fits_basepoint kw }
-{
-    kw >= -MOST_KW && kw <= MOST_KW
-}
-
-fn is_price(cents: i32) -> bool
-    ensures { result ≡ fits_price cents }
-{
-    cents >= -MOST_CENTS && cents <= MOST_CENTS
+impl Span {
+    fn contains(self, figure: i32) -> bool
+        ensures { result ≡ between self.low self.high figure }
+    {
+        (self.low..=self.high).contains(&figure)
+    }
 }
 
 // A sum of the seven flags in which wind output is limited only where there is wind.
@@ -93,7 +102,7 @@ impl Prices {
     fn within(&self) -> bool
         ensures { result ≡ fits_prices self.now }
     {
-        is_price(self.energy) && is_price(self.loss) && is_price(self.congestion)
+        PRICE.contains(self.energy) && PRICE.contains(self.loss) && PRICE.contains(self.congestion)
     }
 }
 
@@ -101,7 +110,9 @@ impl Limits {
     fn within(&self) -> bool
         ensures { result ≡ fits_limits self.now }
     {
-        is_basepoint(self.rtd) && is_basepoint(self.agc) && is_basepoint(self.energy)
+        BASEPOINT.contains(self.rtd)
+            && BASEPOINT.contains(self.agc)
+            && BASEPOINT.contains(self.energy)
     }
 }
 
@@ -109,23 +120,25 @@ impl Interval {
     fn powers_within(&self) -> bool
         ensures { result ≡ fits_powers self.now }
     {
-        is_power(self.average)
+        POWER.contains(self.average)
             && self.limits.within()
-            && is_power(self.transactions)
-            && is_power(self.spin)
+            && POWER.contains(self.transactions)
+            && POWER.contains(self.spin)
     }
 
     fn prices_within(&self) -> bool
         ensures { result ≡ fits_real_time_prices self.now }
     {
-        self.prices.within() && is_price(self.reserve.east) && is_price(self.reserve.west)
+        self.prices.within()
+            && PRICE.contains(self.reserve.east)
+            && PRICE.contains(self.reserve.west)
     }
 
     // Whether the record is within its limits, or the first that it breaks: seconds, flags, power, price.
     pub fn check(&self) -> Result<(), Refusal>
         ensures { result ≡ ruled (interval_refusal self.now) tt }
     {
-        if !is_length(self.seconds) {
+        if !(LEAST_SECONDS..=MOST_SECONDS).contains(&self.seconds) {
             return Err(Refusal::Seconds);
         }
         if !are_flags(self.flags) {
@@ -145,7 +158,9 @@ impl Schedule {
     fn powers_within(&self) -> bool
         ensures { result ≡ fits_sold self.now }
     {
-        is_power(self.generation) && is_power(self.transactions) && is_power(self.spin)
+        POWER.contains(self.generation)
+            && POWER.contains(self.transactions)
+            && POWER.contains(self.spin)
     }
 
     // Whether the row is within its limits, or the first that it breaks: power, price.
@@ -166,7 +181,7 @@ impl Schedule {
 pub fn check_reading(kwh: i32) -> Result<(), Refusal>
     ensures { result ≡ ruled (reading_refusal kwh) tt }
 {
-    if !is_power(kwh) {
+    if !POWER.contains(kwh) {
         return Err(Refusal::Reading);
     }
     Ok(())

@@ -6,7 +6,7 @@ ghost use Rattle.settlement.specs.Rulings.{ruled, optional};
 ghost use Rattle.settlement.specs.Limits.{interval_refusal, schedule_refusal, reading_refusal, each_refusal, hour_refusal};
 ghost use Rattle.settlement.specs.Standing.{intervals, tally_of};
 
-use crate::figures::{Interval, Schedule, Standing, Tally};
+use crate::figures::{Interval, Standing, Tally};
 use crate::limits::{Refusal, check_reading};
 
 impl Tally {
@@ -45,11 +45,7 @@ impl Tally {
         ensures value { result ≡ ruled (each_refusal (flat_map option_to_list records.now)) (tally_of (flat_map option_to_list records.now)) }
         ensures slots { length records.now ≡ 24 }
     {
-        let mut tally = Tally {
-            intervals: 0,
-            seconds: 0,
-            volume: 0,
-        };
+        let mut tally = Tally::default();
         for record in records {
             if let Some(interval) = record {
                 interval.check()?;
@@ -57,26 +53,6 @@ impl Tally {
             }
         }
         Ok(tally)
-    }
-}
-
-// The row of an hour, where it has one, within its limits.
-fn check_row(row: &Option<Schedule>) -> Result<(), Refusal>
-    ensures { result ≡ ruled (optional schedule_refusal row.now) tt }
-{
-    match row {
-        Some(row) => row.check(),
-        None => Ok(()),
-    }
-}
-
-// The reading of an hour, where it has one, within its limits.
-fn check_read(reading: Option<i32>) -> Result<(), Refusal>
-    ensures { result ≡ ruled (optional reading_refusal reading) tt }
-{
-    match reading {
-        Some(kwh) => check_reading(kwh),
-        None => Ok(()),
     }
 }
 
@@ -90,8 +66,12 @@ impl Standing {
         if tally.seconds > 3600 {
             return Err(Refusal::Overfull);
         }
-        check_row(&self.schedule)?;
-        check_read(self.reading)?;
+        if let Some(row) = &self.schedule {
+            row.check()?;
+        }
+        if let Some(kwh) = self.reading {
+            check_reading(kwh)?;
+        }
         Ok(tally)
     }
 }

@@ -32,13 +32,7 @@ impl Hour {
     {
         match self.settled_by() {
             Some(row) => self.sums(edition, region, &row),
-            None => Sums {
-                balance: 0,
-                energy: 0,
-                loss: 0,
-                congestion: 0,
-                spin: 0,
-            },
+            None => Sums::default(),
         }
     }
 
@@ -48,12 +42,7 @@ impl Hour {
     {
         match &self.standing.schedule {
             Some(row) => row.day_ahead(),
-            None => Amounts {
-                energy: 0,
-                loss: 0,
-                congestion: 0,
-                total: 0,
-            },
+            None => Amounts::default(),
         }
     }
 
@@ -102,10 +91,7 @@ impl Hour {
     pub fn record(&self, slot: u8) -> Option<Interval>
         ensures { result ≡ slice_index_or self.now.standing.records slot None }
     {
-        match self.standing.records.get(slot as usize) {
-            Some(record) => *record,
-            None => None,
-        }
+        self.standing.records.get(slot as usize).copied().flatten()
     }
 
     // The figures of the interval in a slot.

@@ -1,6 +1,5 @@
 // Settling an hour: the figures of its intervals, their sums, and its line.
-ghost use Rattle.std.specs.Prelude.{◌≡◌, ◌*◌, ◌≤◌, pos, ◌+ℤ◌, ◌-ℤ◌, ◌*ℤ◌, Some, None, unsigned_abs};
-ghost use Rattle.std.specs.List.{ContainsAt as Has};
+ghost use Rattle.std.specs.Prelude.{◌≡◌, ◌*◌, ◌≤◌, pos, ◌+ℤ◌, ◌-ℤ◌, ◌*ℤ◌, Some, None, unsigned_abs, Contains};
 ghost use Rattle.settlement.specs.Limits.{interval_refusal, schedule_refusal};
 ghost use Rattle.settlement.specs.Standing.{intervals};
 ghost use Rattle.settlement.specs.Formulas.{amount as amount_ℤ, spin_price, figures as figures_ℤ, sums as sums_ℤ};
@@ -67,7 +66,7 @@ impl Hour {
         row: &Schedule,
         interval: &Interval,
     ) -> IntervalFigures
-        requires one { Has (intervals self.now.standing) interval.now }
+        requires one { Contains (intervals self.now.standing) interval.now }
         requires row { self.now.standing.schedule ≡ Some row.now }
         ensures value { result ≡ figures_ℤ (E.Edition.terms edition.now) region row.now self.now.standing interval.now }
         ensures balance { unsigned_abs result.balance ≤ 1206000000 }
@@ -104,13 +103,7 @@ impl Hour {
         ensures congestion { unsigned_abs result.congestion ≤ 24 * 1206000000000 }
         ensures spin { unsigned_abs result.spin ≤ 24 * 1206000000000 }
     {
-        let mut sums = Sums {
-            balance: 0,
-            energy: 0,
-            loss: 0,
-            congestion: 0,
-            spin: 0,
-        };
+        let mut sums = Sums::default();
         for record in &self.standing.records {
             if let Some(interval) = record {
                 sums.add(

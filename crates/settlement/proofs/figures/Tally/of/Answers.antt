@@ -12,7 +12,7 @@ use Rattle.settlement.proofs.figures.Tally.of.Goals as goal
 use Rattle.settlement.proofs.figures.Tally.of.Goals.{in-Some+in_ok-check, in_default}
 
 pub loop-record-init : goal.loop-record-init
-loop-record-init c = counted_none c.args.records.now
+loop-record-init c = counted_none c.args.records.now c.default-tally.result c.default-tally.ensures
 
 pub returns-in_err-check : goal.returns-in_err-check
 returns-in_err-check c =

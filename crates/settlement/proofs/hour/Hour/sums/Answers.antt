@@ -1,12 +1,16 @@
-use Rattle.std.proofs.Common.{◌+◌, ◌<◌, length, sym, subst, arith}
+use Rattle.std.proofs.Common.{◌≡◌, ◌+◌, ◌<◌, length, sym, subst, arith}
 use Rattle.arithmetic.proofs.Sums.{standing_has}
+use Rattle.settlement.specs.Formulas.{no_sums}
 use Rattle.settlement.proofs.Summing.{Summed, summed_none, summed_empty, summed_more, summed_all}
 use Rattle.settlement.proofs.Within.{within, sound_one}
 use Rattle.settlement.proofs.hour.Hour.sums.Goals as goal
 use Rattle.settlement.proofs.hour.Hour.sums.Goals.{in-Some, in_default}
 
 pub loop-record-init : goal.loop-record-init
-loop-record-init g c = summed_none (g.E.Edition.terms c.args.edition.now) c.args.region c.args.row.now c.args.self.now.standing
+loop-record-init g c =
+    let z = c.default-sums.ensures in
+    let zero : c.default-sums.result ≡ no_sums = λ k. record { balance = z.0 k; energy = z.1.0 k; loss = z.1.1.0 k; congestion = z.1.1.1.0 k; spin = z.1.1.1.1 k } in
+    summed_none (g.E.Edition.terms c.args.edition.now) c.args.region c.args.row.now c.args.self.now.standing _ zero
 
 pub settle-requires : goal.settle-requires
 settle-requires g c =
