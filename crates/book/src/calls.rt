@@ -4,7 +4,7 @@ use crate::figures::DayLine;
 use settlement::{HourLine, Interval, IntervalFigures, Schedule};
 
 // A change to what stands for an hour, with its figures as they were sent.
-#[derive(Clone, Copy)]
+#[derive(Clone, Copy, PartialEq, Eq, Debug)]
 pub enum Change {
     // A schedule row, in the place of a former one.
     Scheduled {
@@ -34,7 +34,7 @@ pub enum Change {
 }
 
 // A change, or a question: the line of an hour, the figures of the interval in a slot, the line of the day.
-#[derive(Clone, Copy)]
+#[derive(Clone, Copy, PartialEq, Eq, Debug)]
 pub enum Call {
     Make(Change),
     AskHour { hour: u8 },
@@ -43,7 +43,7 @@ pub enum Call {
 }
 
 // What an accepted call is answered with.
-#[derive(Clone, Copy)]
+#[derive(Clone, Copy, PartialEq, Eq, Debug)]
 pub enum Answer {
     Done,
     Line(HourLine),
@@ -52,7 +52,7 @@ pub enum Answer {
 }
 
 // A call of a log, with its answer once it has run.
-#[derive(Clone, Copy)]
+#[derive(Clone, Copy, PartialEq, Eq, Debug)]
 pub struct Entry {
     pub call: Call,
     pub answer: Result<Answer, Fault>,

@@ -1,14 +1,14 @@
 // Why a call is refused.
 ghost use Rattle.std.specs.Prelude.{◌≡◌};
-ghost use Rattle.book.specs.declared.faults.Fault.TheVariants.{InStore};
+ghost use Rattle.book.specs.declared.faults.Fault.TheVariants.{BadRegion, InStore};
 ghost use Rattle.book.specs.Faults.{told, report as report_of};
 
 use record_store::StoreFault;
-use settlement::Refusal;
+use settlement::{Refusal, UnknownRegion};
 
 // The first thing that is wrong with a call. Hour and slot are those that the call named, also where they are what is
 // refused.
-#[derive(Clone, Copy)]
+#[derive(Clone, Copy, PartialEq, Eq, Debug)]
 pub enum Fault {
     // A day has 23, 24 or 25 hours.
     BadHours,
@@ -36,6 +36,14 @@ pub enum Fault {
     InStore(StoreFault),
 }
 
+impl From<UnknownRegion> for Fault {
+    ghost from_gives = { λ _ r. r ≡ BadRegion };
+
+    fn from(_number: UnknownRegion) -> Fault {
+        Fault::BadRegion
+    }
+}
+
 impl From<StoreFault> for Fault {
     ghost from_gives = { λ fault r. r ≡ InStore fault };
 
@@ -45,7 +53,7 @@ impl From<StoreFault> for Fault {
 }
 
 // Which layer found a fault.
-#[derive(Clone, Copy)]
+#[derive(Clone, Copy, PartialEq, Eq, Debug)]
 pub enum Layer {
     File,
     Statement,
@@ -53,7 +61,7 @@ pub enum Layer {
 }
 
 // What is told of a fault.
-#[derive(Clone, Copy)]
+#[derive(Clone, Copy, PartialEq, Eq, Debug)]
 pub struct Report {
     pub layer: Layer,
     pub number: u8,

@@ -2,7 +2,7 @@
 use settlement::{Amounts, HourLine, Region, Schedule};
 
 // What is kept of an hour beside its records, and its line.
-#[derive(Clone, Copy)]
+#[derive(Clone, Copy, Default, PartialEq, Eq, Debug)]
 pub struct Row {
     pub schedule: Option<Schedule>,
     pub reading: Option<i32>,
@@ -10,7 +10,7 @@ pub struct Row {
 }
 
 // The line of a day: the settled hours are counted, all else is added up.
-#[derive(Clone, Copy)]
+#[derive(Clone, Copy, Default, PartialEq, Eq, Debug)]
 pub struct DayLine {
     pub settled: u8,
     pub intervals: u16,
@@ -24,7 +24,7 @@ pub struct DayLine {
 }
 
 // The rows of a day, as many as the longest day has hours, and the day's line.
-#[derive(Clone, Copy)]
+#[derive(Clone, Copy, PartialEq, Eq, Debug)]
 pub struct Table {
     pub hours: u8,
     pub region: Region,

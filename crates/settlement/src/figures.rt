@@ -110,9 +110,10 @@ pub struct Sums {
     pub spin: i64,
 }
 
-#[derive(Clone, Copy, PartialEq, Eq, Debug)]
+#[derive(Clone, Copy, Default, PartialEq, Eq, Debug)]
 pub enum State {
     Settled,
+    #[default]
     Unsettled,
 }
 
@@ -126,7 +127,7 @@ pub struct Amounts {
 }
 
 // The line of an hour: what stands in it, what was sold the day before, and what is balanced in real time.
-#[derive(Clone, Copy, PartialEq, Eq, Debug)]
+#[derive(Clone, Copy, Default, PartialEq, Eq, Debug)]
 pub struct HourLine {
     pub state: State,
     pub intervals: u8,
