@@ -8,7 +8,7 @@ use Rattle.statement.specs.declared.statement.Statement.{Statement}
 use Rattle.statement.specs.Accounts.{kept_in, closed}
 
 pub formed : {E : Type 0} (edition : EditionGhosts E) (st : Statement E) (m : Meaning) → Lawful (edition.terms st.edition) → Formed (kept_in edition st m)
-formed edition st m lawful = record { rows = st.rows; hours = st.fit; lawful = lawful }
+formed edition st m lawful = record { rows = st.sheet.rows; hours = st.sheet.fit; lawful = lawful }
 
 pub formed_closed : (e : Terms) (st : Locked) (m : Meaning) → Lawful e → Formed (closed e st m)
-formed_closed e st m lawful = record { rows = st.rows; hours = st.fit; lawful = lawful }
+formed_closed e st m lawful = record { rows = st.sheet.rows; hours = st.sheet.fit; lawful = lawful }

@@ -9,7 +9,7 @@ use Rattle.statement.specs.declared.statement.Statement.{Statement}
 
 -- A statement over a store that means so.
 abbrev pub kept_in : {E : Type 0} → EditionGhosts E → Statement E → Meaning → Account
-kept_in edition statement meaning = record { terms = edition.terms statement.edition; table = statement.table; store = meaning }
+kept_in edition statement meaning = record { terms = edition.terms statement.edition; table = statement.sheet.table; store = meaning }
 
 -- A statement over its store.
 abbrev pub account : {E S : Type 0} → EditionGhosts E → StoreGhosts S → Statement E → S → Account
@@ -17,4 +17,4 @@ account edition storage statement store = kept_in edition statement (storage.mea
 
 -- A locked statement, by any terms and over any store.
 abbrev pub closed : Terms → Locked → Meaning → Account
-closed e statement meaning = record { terms = e; table = statement.table; store = meaning }
+closed e statement meaning = record { terms = e; table = statement.sheet.table; store = meaning }

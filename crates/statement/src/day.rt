@@ -57,28 +57,12 @@ fn plus_line(day: &DayLine, line: &HourLine) -> DayLine
     }
 }
 
-const NOTHING: Amounts = Amounts {
-    energy: 0,
-    loss: 0,
-    congestion: 0,
-    total: 0,
-};
-
 // The line of the day that has these rows.
 pub(crate) fn added_up(rows: &[Row; 25]) -> DayLine
     requires { (h : ℕ) → is_day_part (slice_index_or rows.now h no_row).line ≡ true }
     ensures { result ≡ day_of rows.now }
 {
-    let mut day = DayLine {
-        settled: 0,
-        intervals: 0,
-        seconds: 0,
-        ahead: NOTHING,
-        balance: 0,
-        balancing: NOTHING,
-        spin: 0,
-        total: 0,
-    };
+    let mut day = DayLine::default();
     for row in rows {
         day = plus_line(&day, &row.line);
     }

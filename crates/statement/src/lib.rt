@@ -3,6 +3,7 @@
 
 mod day;
 mod locked;
+mod sheet;
 mod statement;
 
 pub use locked::Locked;

@@ -17,23 +17,20 @@ impl Locked {
     pub fn hour_line(&self, hour: u8) -> Result<HourLine, Fault>
         ensures { (e : Terms) (m : Meaning) → Lawful e → Gated (closed e self.now m) (AskHour hour) (as_answer Line result) (closed e self.now m) }
     {
-        if hour >= self.table.hours {
-            return Err(Fault::NoHour { hour, slot: 0 });
-        }
-        Ok(self.table.rows[hour as usize].line)
+        Ok(self.sheet.row(hour, 0)?.line)
     }
 
     // The line of the day.
     pub fn day_line(&self) -> DayLine
         ensures { (e : Terms) (m : Meaning) → Lawful e → Gated (closed e self.now m) AskDay (Ok (Day result)) (closed e self.now m) }
     {
-        self.table.day
+        self.sheet.table.day
     }
 
     // The rows and the day line, to read only.
     pub fn table(&self) -> &Table
-        ensures { result.now ≡ self.now.table }
+        ensures { result.now ≡ self.now.sheet.table }
     {
-        &self.table
+        &self.sheet.table
     }
 }

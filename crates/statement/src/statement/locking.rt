@@ -7,10 +7,10 @@ use crate::statement::Statement;
 impl<E: Drop> Statement<E> {
     // The statement as it is, moved into one that takes no change. Nothing refuses it.
     pub fn lock(self) -> Locked
-        ensures { result.table ≡ self.table }
+        ensures { result.sheet.table ≡ self.sheet.table }
     {
-        let Statement { edition, table } = self;
+        let Statement { edition, sheet } = self;
         drop(edition);
-        Locked::over(table)
+        Locked { sheet }
     }
 }

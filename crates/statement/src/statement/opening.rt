@@ -1,56 +1,14 @@
 // Opening a day over a store, and playing a list of calls from its opening.
 ghost use Rattle.std.specs.Prelude.{◌≡◌, ◌≤◌, [], is_some, Some, None, count_by, MatchResult};
-ghost use Rattle.settlement.specs.Rulings.{ruled};
-ghost use Rattle.book.specs.Lines.{rows_of, table_of, no_row};
-ghost use Rattle.book.specs.Gate.{count, region_of, region_refusal, opening_refusal, Opened};
+ghost use Rattle.book.specs.Gate.{count, opening_refusal, Opened};
 ghost use Rattle.statement.specs.Accounts.{account};
 ghost use Rattle.statement.specs.Logs.{calls, answers};
 
-use crate::day::added_up;
+use crate::sheet::Sheet;
 use crate::statement::Statement;
-use book::{Entry, Fault, Row, Table};
+use book::{Entry, Fault};
 use record_store::Store;
-use settlement::{Amounts, Edition, HourLine, Interval, Region, State};
-
-const NOTHING: Amounts = Amounts {
-    energy: 0,
-    loss: 0,
-    congestion: 0,
-    total: 0,
-};
-
-// The row of an hour for which nothing stands.
-fn blank() -> Row
-    ensures { result ≡ no_row }
-{
-    Row {
-        schedule: None,
-        reading: None,
-        line: HourLine {
-            state: State::Unsettled,
-            intervals: 0,
-            seconds: 0,
-            ahead: NOTHING,
-            balance: 0,
-            balancing: NOTHING,
-            spin: 0,
-            total: 0,
-        },
-    }
-}
-
-// The table of a day for which nothing stands.
-fn blank_table(hours: u8, region: Region) -> Table
-    ensures { result ≡ table_of hours region (rows_of (λ _. no_row)) }
-{
-    let rows = [blank(); 25];
-    Table {
-        hours,
-        region,
-        rows,
-        day: added_up(&rows),
-    }
-}
+use settlement::{Edition, Interval, Region};
 
 // How many records stand in the slots of an hour.
 fn standing_in_hour(records: &[Option<Interval>; 24]) -> u16
@@ -77,17 +35,6 @@ fn standing_in<S: Store>(store: &S) -> u16
     count
 }
 
-// The region of a number.
-fn region_of(number: u8) -> Result<Region, Fault>
-    ensures { result ≡ ruled (region_refusal number) (region_of number) }
-{
-    match number {
-        0 => Ok(Region::East),
-        1 => Ok(Region::West),
-        _ => Err(Fault::BadRegion),
-    }
-}
-
 impl<E: Edition> Statement<E> {
     // A day of that many hours in the region of that number, over a store in which nothing stands.
     pub fn open<S: Store>(
@@ -100,16 +47,16 @@ impl<E: Edition> Statement<E> {
         E: Drop,
         ensures { MatchResult result (λ s. Opened (E.Edition.terms edition) hours region (S.Store.means store.now) [] [] (account E.Edition S.Store s store.now)) (λ f. opening_refusal hours region (S.Store.means store.now) ≡ Some f) }
     {
-        if hours < 23 || hours > 25 {
+        if !(23..=25).contains(&hours) {
             return Err(Fault::BadHours);
         }
-        let region = region_of(region)?;
+        let region = Region::try_from(region)?;
         if standing_in(store) > 0 {
             return Err(Fault::Occupied);
         }
         Ok(Statement {
             edition,
-            table: blank_table(hours, region),
+            sheet: Sheet::blank(hours, region),
         })
     }
 

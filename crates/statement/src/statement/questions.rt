@@ -18,10 +18,7 @@ impl<E: Edition> Statement<E> {
     pub fn hour_line(&self, hour: u8) -> Result<HourLine, Fault>
         ensures { (m : Meaning) → Gated (kept_in E.Edition self.now m) (AskHour hour) (as_answer Line result) (kept_in E.Edition self.now m) }
     {
-        if hour >= self.table.hours {
-            return Err(Fault::NoHour { hour, slot: 0 });
-        }
-        Ok(self.table.rows[hour as usize].line)
+        Ok(self.sheet.row(hour, 0)?.line)
     }
 
     // The figures of the interval in a slot.
@@ -30,7 +27,7 @@ impl<E: Edition> Statement<E> {
     {
         let standing = self.load(store, hour, slot)?;
         placed(
-            standing.figures(&self.edition, self.table.region, slot),
+            standing.figures(&self.edition, self.sheet.table.region, slot),
             hour,
             slot,
         )
@@ -40,6 +37,6 @@ impl<E: Edition> Statement<E> {
     pub fn day_line(&self) -> DayLine
         ensures { (m : Meaning) → Gated (kept_in E.Edition self.now m) AskDay (Ok (Day result)) (kept_in E.Edition self.now m) }
     {
-        self.table.day
+        self.sheet.table.day
     }
 }

@@ -4,7 +4,6 @@ ghost use Rattle.book.specs.Lines.{row_of, rewritten};
 ghost use Rattle.book.specs.Outcome.{at_place, outside, unfit, view, standing as standing_of};
 ghost use Rattle.statement.specs.Accounts.{account};
 
-use crate::day::added_up;
 use crate::statement::Statement;
 use book::{Fault, Row};
 use record_store::Store;
@@ -14,48 +13,38 @@ use settlement::{Edition, Hour, Refusal, Standing};
 pub(super) fn placed<T>(answer: Result<T, Refusal>, hour: u8, slot: u8) -> Result<T, Fault>
     ensures { result ≡ at_place hour slot answer }
 {
-    match answer {
-        Ok(answer) => Ok(answer),
-        Err(refusal) => Err(Fault::Refused {
-            refusal,
-            hour,
-            slot,
-        }),
-    }
+    answer.map_err(|refusal| Fault::Refused {
+        refusal,
+        hour,
+        slot,
+    })
 }
 
 impl<E: Edition> Statement<E> {
     // The hour as it stands, if it is one of the day and its records break no limit.
     pub(super) fn load<S: Store>(&self, store: &S, hour: u8, slot: u8) -> Result<Hour, Fault>
-        ensures { MatchResult result (λ h. (unfit (view (account E.Edition S.Store self.now store.now)) hour slot ≡ None) × (h.standing ≡ standing_of self.now.table (S.Store.means store.now) hour) × (hour < 25)) (λ f. unfit (view (account E.Edition S.Store self.now store.now)) hour slot ≡ Some f) }
+        ensures { MatchResult result (λ h. (unfit (view (account E.Edition S.Store self.now store.now)) hour slot ≡ None) × (h.standing ≡ standing_of self.now.sheet.table (S.Store.means store.now) hour) × (hour < 25)) (λ f. unfit (view (account E.Edition S.Store self.now store.now)) hour slot ≡ Some f) }
     {
-        if hour >= self.table.hours {
-            return Err(Fault::NoHour { hour, slot });
-        }
-        let row = &self.table.rows[hour as usize];
+        let row = self.sheet.row(hour, slot)?;
         let standing = Standing {
             schedule: row.schedule,
             reading: row.reading,
             records: store.hour(hour),
         };
-        match Hour::new(standing) {
-            Ok(standing) => Ok(standing),
-            Err(_) => Err(Fault::BadRecords { hour, slot }),
-        }
+        Hour::new(standing).map_err(|_| Fault::BadRecords { hour, slot })
     }
 
     // The row of an hour is worked out from what stands, and the day's line with it; no other row is touched.
     pub(super) fn settle(&mut self, hour: u8, standing: &Hour)
         requires { hour < 25 }
         ensures edition { self.new.edition ≡ self.old.edition }
-        ensures table { self.new.table ≡ rewritten self.old.table hour (row_of (E.Edition.terms self.old.edition) self.old.table.region standing.now.standing) }
+        ensures table { self.new.sheet.table ≡ rewritten self.old.sheet.table hour (row_of (E.Edition.terms self.old.edition) self.old.sheet.table.region standing.now.standing) }
     {
         let row = Row {
             schedule: standing.scheduled(),
             reading: standing.reading(),
-            line: standing.line(&self.edition, self.table.region),
+            line: standing.line(&self.edition, self.sheet.table.region),
         };
-        self.table.rows[hour as usize] = row;
-        self.table.day = added_up(&self.table.rows);
+        self.sheet.rewrite(hour, row);
     }
 }

@@ -8,7 +8,18 @@ use Rattle.statement.proofs.day.added_up.Goals as goal
 
 pub loop-row-init : goal.loop-row-init
 unfolding sum_ℤ
-loop-row-init c = refl
+loop-row-init c =
+    let z = c.default-day.ensures in
+    λ i. record {
+      settled = z.0 i;
+      intervals = z.1.0 i;
+      seconds = z.1.1.0 i;
+      ahead = record { energy = z.1.1.1.0.0 i; loss = z.1.1.1.0.1.0 i; congestion = z.1.1.1.0.1.1.0 i; total = z.1.1.1.0.1.1.1 i };
+      balance = z.1.1.1.1.0 i;
+      balancing = record { energy = z.1.1.1.1.1.0.0 i; loss = z.1.1.1.1.1.0.1.0 i; congestion = z.1.1.1.1.1.0.1.1.0 i; total = z.1.1.1.1.1.0.1.1.1 i };
+      spin = z.1.1.1.1.1.1.0 i;
+      total = z.1.1.1.1.1.1.1 i;
+    }
 
 pub plus_line-day-requires : goal.plus_line-day-requires
 plus_line-day-requires c =

@@ -10,4 +10,4 @@ pub returns : goal.returns
 returns g c m =
     let st = c.args.self.now in
     let a = kept_in g.E.Edition st m in
-    gated a AskDay (Ok (Day st.table.day)) a (formed g.E.Edition st m (g.met.E.Edition.lawful _)) (record { answer = refl; after = refl })
+    gated a AskDay (Ok (Day st.sheet.table.day)) a (formed g.E.Edition st m (g.met.E.Edition.lawful _)) (record { answer = refl; after = refl })
