@@ -6,3 +6,4 @@ pub mod Making
 pub mod Asking
 pub mod Running
 pub mod Blank
+pub mod Counts

@@ -1,5 +1,7 @@
 // Opening a day over a store, and playing a list of calls from its opening.
-ghost use Rattle.std.specs.Prelude.{◌≡◌, ◌≤◌, [], is_some, Some, None, count_by, MatchResult};
+ghost use Rattle.std.specs.Prelude.{◌≡◌, [], not, is_some, Some, None, ◌==◌, MatchResult};
+ghost use Rattle.std.specs.List.{list_any};
+ghost use Rattle.record_store.specs.Meaning.{hour_records};
 ghost use Rattle.book.specs.Gate.{count, opening_refusal, Opened};
 ghost use Rattle.statement.specs.Accounts.{account};
 ghost use Rattle.statement.specs.Logs.{calls, answers};
@@ -8,31 +10,25 @@ use crate::sheet::Sheet;
 use crate::statement::Statement;
 use book::{Entry, Fault};
 use record_store::Store;
-use settlement::{Edition, Interval, Region};
+use settlement::{Edition, Region};
 
-// How many records stand in the slots of an hour.
-fn standing_in_hour(records: &[Option<Interval>; 24]) -> u16
-    ensures is { result ≡ count_by is_some records.now }
-    ensures few { result ≤ 24 }
+// Whether any record stands for an hour.
+fn any_stands<S: Store>(store: &S, hour: u8) -> bool
+    ensures { result ≡ list_any is_some (hour_records ((S.Store.means store.now).standing hour)) }
 {
-    let mut count = 0;
-    for record in records {
-        if record.is_some() {
-            count += 1;
-        }
-    }
-    count
+    store.hour(hour).iter().any(|record| record.is_some())
 }
 
-// How many records stand in a store.
-fn standing_in<S: Store>(store: &S) -> u16
-    ensures { result ≡ count (S.Store.means store.now).standing }
+// Whether any record stands in a store.
+fn is_occupied<S: Store>(store: &S) -> bool
+    ensures { result ≡ not (count (S.Store.means store.now).standing == 0) }
 {
-    let mut count = 0;
     for hour in 0..25u8 {
-        count += standing_in_hour(&store.hour(hour));
+        if any_stands(store, hour) {
+            return true;
+        }
     }
-    count
+    false
 }
 
 impl<E: Edition> Statement<E> {
@@ -51,7 +47,7 @@ impl<E: Edition> Statement<E> {
             return Err(Fault::BadHours);
         }
         let region = Region::try_from(region)?;
-        if standing_in(store) > 0 {
+        if is_occupied(store) {
             return Err(Fault::Occupied);
         }
         Ok(Statement {

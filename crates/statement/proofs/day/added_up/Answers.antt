@@ -1,4 +1,4 @@
-use Rattle.std.proofs.Common.{sym, refl, ap, ◌∙◌, subst, arith}
+use Rattle.std.proofs.Common.{sym, ap, ◌∙◌, subst, arith}
 use Rattle.arithmetic.specs.Sums.{sum_ℤ}
 use Rattle.std.proofs.lemmas.List.{take_all}
 use Rattle.book.specs.Lines.{day_of}

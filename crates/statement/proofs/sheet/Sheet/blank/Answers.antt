@@ -1,5 +1,4 @@
 -- The table of a day for which nothing stands.
-use Rattle.std.proofs.Common.{◌≤◌, arith}
 use Rattle.statement.proofs.Blank.{blank_tame, blank_made, blank_facts}
 use Rattle.statement.proofs.sheet.Sheet.blank.Goals as goal
 

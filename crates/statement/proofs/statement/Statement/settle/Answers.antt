@@ -1,4 +1,3 @@
-use Rattle.std.proofs.Common.{arith}
 use Rattle.book.specs.declared.figures.Row.{Row}
 use Rattle.statement.proofs.Settling.{row_within}
 use Rattle.statement.proofs.statement.Statement.settle.Goals as goal
