@@ -1,5 +1,5 @@
 -- What stands in an hour: its intervals, their seconds, and what their averages come to.
-use Rattle.std.specs.Prelude.{ℕ, List, length, ℤ, pos, ◌*ℤ◌, sum_by}
+use Rattle.std.specs.Prelude.{ℕ, ◌+◌, List, length, ℤ, pos, ◌+ℤ◌, ◌*ℤ◌, sum_by}
 use Rattle.std.specs.List.{flat_map}
 use Rattle.std.specs.Option.{option_to_list}
 use Rattle.arithmetic.specs.Sums.{sum_ℤ}
@@ -30,3 +30,7 @@ volume h = volume_of (intervals h)
 -- How many intervals, their seconds and their volume.
 abbrev pub tally_of : List Interval → Tally
 tally_of is = record { intervals = length is; seconds = seconds_of is; volume = volume_of is }
+
+-- A tally with one interval more.
+abbrev pub with_interval : Tally → Interval → Tally
+with_interval t i = record { intervals = t.intervals + 1; seconds = t.seconds + i.seconds; volume = t.volume +ℤ i.average *ℤ pos i.seconds }

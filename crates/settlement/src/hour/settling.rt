@@ -2,7 +2,8 @@
 ghost use Rattle.std.specs.Prelude.{◌≡◌, ◌*◌, ◌≤◌, pos, ◌+ℤ◌, ◌-ℤ◌, ◌*ℤ◌, Some, None, unsigned_abs, Contains};
 ghost use Rattle.settlement.specs.Limits.{interval_refusal, schedule_refusal};
 ghost use Rattle.settlement.specs.Standing.{intervals};
-ghost use Rattle.settlement.specs.Formulas.{amount as amount_ℤ, spin_price, figures as figures_ℤ, sums as sums_ℤ};
+ghost use Rattle.settlement.specs.Formulas.{amount as amount_ℤ, spin_price, figures as figures_ℤ, sums as sums_ℤ, with_figures};
+ghost use Rattle.settlement.specs.Bounds.{FiguresWithin, SumsWithin};
 
 use crate::amounts::amount;
 use crate::editions::Edition;
@@ -38,16 +39,9 @@ impl Sums {
     // One interval more. There is room for the 24 of an hour.
     fn add(&mut self, seconds: u16, figures: &IntervalFigures)
         requires seconds { seconds ≤ 3600 }
-        requires balance { (unsigned_abs self.old.balance ≤ 23 * 4341600000000) × (unsigned_abs figures.now.balance ≤ 1206000000) }
-        requires energy { (unsigned_abs self.old.energy ≤ 23 * 1206000000000) × (unsigned_abs figures.now.energy ≤ 1206000000000) }
-        requires loss { (unsigned_abs self.old.loss ≤ 23 * 1206000000000) × (unsigned_abs figures.now.loss ≤ 1206000000000) }
-        requires congestion { (unsigned_abs self.old.congestion ≤ 23 * 1206000000000) × (unsigned_abs figures.now.congestion ≤ 1206000000000) }
-        requires spin { (unsigned_abs self.old.spin ≤ 23 * 1206000000000) × (unsigned_abs figures.now.spin ≤ 1206000000000) }
-        ensures balance { self.new.balance ≡ self.old.balance +ℤ figures.now.balance *ℤ pos seconds }
-        ensures energy { self.new.energy ≡ self.old.energy +ℤ figures.now.energy }
-        ensures loss { self.new.loss ≡ self.old.loss +ℤ figures.now.loss }
-        ensures congestion { self.new.congestion ≡ self.old.congestion +ℤ figures.now.congestion }
-        ensures spin { self.new.spin ≡ self.old.spin +ℤ figures.now.spin }
+        requires room { SumsWithin 23 self.old }
+        requires figures { FiguresWithin figures.now }
+        ensures { self.new ≡ with_figures self.old seconds figures.now }
     {
         self.balance += figures.balance * seconds as i64;
         self.energy += figures.energy;
@@ -69,11 +63,7 @@ impl Hour {
         requires one { Contains (intervals self.now.standing) interval.now }
         requires row { self.now.standing.schedule ≡ Some row.now }
         ensures value { result ≡ figures_ℤ (E.Edition.terms edition.now) region row.now self.now.standing interval.now }
-        ensures balance { unsigned_abs result.balance ≤ 1206000000 }
-        ensures energy { unsigned_abs result.energy ≤ 1206000000000 }
-        ensures loss { unsigned_abs result.loss ≤ 1206000000000 }
-        ensures congestion { unsigned_abs result.congestion ≤ 1206000000000 }
-        ensures spin { unsigned_abs result.spin ≤ 1206000000000 }
+        ensures within { FiguresWithin result }
     {
         let adjusted = self.adjusted(interval);
         let basis = edition.basis(interval.flags, adjusted, &interval.limits);
@@ -97,11 +87,7 @@ impl Hour {
     pub(super) fn sums<E: Edition>(&self, edition: &E, region: Region, row: &Schedule) -> Sums
         requires row { self.now.standing.schedule ≡ Some row.now }
         ensures value { result ≡ sums_ℤ (E.Edition.terms edition.now) region row.now self.now.standing (intervals self.now.standing) }
-        ensures balance { unsigned_abs result.balance ≤ 24 * 4341600000000 }
-        ensures energy { unsigned_abs result.energy ≤ 24 * 1206000000000 }
-        ensures loss { unsigned_abs result.loss ≤ 24 * 1206000000000 }
-        ensures congestion { unsigned_abs result.congestion ≤ 24 * 1206000000000 }
-        ensures spin { unsigned_abs result.spin ≤ 24 * 1206000000000 }
+        ensures within { SumsWithin 24 result }
     {
         let mut sums = Sums::default();
         for record in &self.standing.records {

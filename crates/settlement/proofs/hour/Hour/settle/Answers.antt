@@ -87,9 +87,5 @@ returns g c =
     let spin = back w64 (held c.spin.ensures.value c.spin.ensures.bound) (lit< tt) in
     record {
       value = λ k. record { adjusted = a.is k; basis = b.is k; balance = due.is k; energy = energy.is k; loss = loss.is k; congestion = congestion.is k; spin = spin.is k };
-      balance = sized due;
-      energy = sized energy;
-      loss = sized loss;
-      congestion = sized congestion;
-      spin = sized spin;
+      within = record { balance = sized due; energy = sized energy; loss = sized loss; congestion = sized congestion; spin = sized spin };
     }
