@@ -7,6 +7,7 @@ ghost use Rattle.settlement.specs.Formulas.{settled_by, settled_sums, ahead as a
 use crate::editions::{Edition, Sign};
 use crate::figures::{Amounts, HourLine, Interval, IntervalFigures, Region, Schedule, State, Sums};
 use crate::hour::Hour;
+use crate::hour::settling::Settling;
 use crate::limits::Refusal;
 
 impl Hour {
@@ -104,6 +105,13 @@ impl Hour {
         let Some(row) = self.settled_by() else {
             return Err(Refusal::Unsettled);
         };
-        Ok(self.settle(edition, region, &row, &interval))
+        let settling = Settling {
+            hour: self,
+            edition,
+            region,
+            row: &row,
+            interval: &interval,
+        };
+        Ok(settling.figures())
     }
 }

@@ -12,16 +12,16 @@ loop-record-init g c =
     let zero : c.default-sums.result ≡ no_sums = λ k. record { balance = z.0 k; energy = z.1.0 k; loss = z.1.1.0 k; congestion = z.1.1.1.0 k; spin = z.1.1.1.1 k } in
     summed_none (g.E.Edition.terms c.args.edition.now) c.args.region c.args.row.now c.args.self.now.standing _ zero
 
-pub settle-requires : goal.settle-requires
-settle-requires g c =
-    record { one = standing_has c.args.self.now.standing.records c.loop-record.record-index c.in-Some.interval (omega arith) c.in-Some.is; row = c.requires.row }
+pub invariant_of-settling : goal.invariant_of-settling
+invariant_of-settling g c =
+    record { sold = c.requires; stands = ∣ standing_has c.args.self.now.standing.records c.loop-record.record-index c.in-Some.interval (omega arith) c.in-Some.is ∣₁ }
 
 pub add-requires : goal.add-requires
 add-requires g c =
     let h = c.args.self.now.standing in
     let one = standing_has h.records c.loop-record.record-index c.in-Some.interval (omega arith) c.in-Some.is in
-    let s = sound_one h c.in-Some.interval (within h c.args.self.now.within) one in
-    record { seconds = s.most; room = summed_within _ _ _ h _ 23 _ (omega arith) c.loop-record.invariant; figures = c.settle.ensures.within }
+    let s = sound_one h c.in-Some.interval (within h c.args.self.now.within) ∣ one ∣₁ in
+    record { seconds = s.most; room = summed_within _ _ _ h _ 23 _ (omega arith) c.loop-record.invariant; figures = c.figures.ensures.within }
 
 pub loop-record-preserved : goal.loop-record-preserved
 loop-record-preserved g c =
@@ -34,9 +34,9 @@ loop-record-preserved g c =
       | in-Some w ↦
           let i = w.in-Some.interval in
           let one = standing_has h.records k i l w.in-Some.is in
-          let s = sound_one h i (within h c.args.self.now.within) one in
+          let s = sound_one h i (within h c.args.self.now.within) ∣ one ∣₁ in
           subst (Summed e c.args.region row h (k + 1)) (sym w.sums-is)
-          (summed_more e c.args.region row h k c.loop-record.sums w.add.new.self i w.settle.result c.loop-record.invariant l w.in-Some.is s.most w.settle.ensures.value w.settle.ensures.within w.add.ensures)
+          (summed_more e c.args.region row h k c.loop-record.sums w.add.new.self i w.figures.result c.loop-record.invariant l w.in-Some.is s.most w.figures.ensures.value w.figures.ensures.within w.add.ensures)
       | in_default w ↦ summed_empty e c.args.region row h k _ (subst (Summed e c.args.region row h k) (sym w.sums-is) c.loop-record.invariant) l w.in_default.is
     ]
 

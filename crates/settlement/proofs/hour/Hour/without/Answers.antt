@@ -18,7 +18,7 @@ discount-requires c =
     let small = tally_small h.records hour.counted hour.slots w.fair hour.tallied in
     let part = seconds_part h i one in
     record {
-      fair = fair_one h i w one;
+      fair = fair_one h i w ∣ one ∣₁;
       few = omega (arith, ap (λ (t : Tally). t.intervals) hour.tallied, one.1);
       short = omega (arith, ap (λ (t : Tally). t.seconds) hour.tallied, part);
       room = small;
