@@ -1,6 +1,6 @@
 -- An hour that breaks no limit still breaks none where one of its figures is changed for another within its limits; and
 -- what is counted in it changes by that figure alone.
-use Rattle.std.proofs.Common.{◌≡◌, ℕ, suc, ◌+◌, ◌*◌, ◌<◌, ◌≤◌, false, List, [], ◌∷◌, ◌++◌, length, get_or, take, drop, set, ℤ, pos, ◌+ℤ◌, ◌-ℤ◌, ◌*ℤ◌, nat_abs, is_some, Some, None, sum_by, Option, sym, refl, ap, ◌∙◌, subst, mul-le-mul, arith}
+use Rattle.std.proofs.Common.{◌≡◌, ℕ, suc, ◌+◌, ◌<◌, ◌≤◌, false, List, [], ◌∷◌, ◌++◌, length, get_or, take, drop, set, ℤ, pos, ◌+ℤ◌, ◌*ℤ◌, nat_abs, is_some, Some, None, sum_by, Option, sym, refl, ap, ◌∙◌, subst, mul-le-mul, arith}
 use borrow.Author.Differences.{ints}
 use Rattle.std.specs.List.{flat_map, All, Contains}
 use Rattle.std.specs.Option.{option_to_list}
@@ -18,9 +18,9 @@ use Rattle.settlement.specs.declared.figures.Tally.{Tally}
 use Rattle.settlement.specs.Rulings.{optional}
 use Rattle.settlement.specs.Limits.{interval_refusal, schedule_refusal, each_refusal, hour_refusal}
 use Rattle.settlement.specs.Changes.{with_record, with_row, others}
-use Rattle.settlement.specs.Standing.{intervals, seconds, tally_of}
+use Rattle.settlement.specs.Standing.{intervals, seconds, tally_of, with_interval}
+use Rattle.settlement.specs.Bounds.{TallyWithin}
 use Rattle.settlement.proofs.Rulings.{first_none}
-use Rattle.settlement.proofs.Counting.{Adds}
 use Rattle.settlement.proofs.Ranges.{sound}
 use Rattle.settlement.proofs.Within.{Fair, Within, within}
 
@@ -61,16 +61,21 @@ record_within h k o l e ok short =
     let w = within h e in
     hour_within (with_record h k o) (record { fair = fair_around h.records k o l w.fair ok; short = short; schedule = w.schedule; reading = w.reading })
 
--- What an interval takes from a tally.
-pub record Removes (t u : Tally) (i : Interval) : Type 0 where
-  pub intervals : u.intervals + 1 ≡ t.intervals
-  pub seconds : u.seconds + i.seconds ≡ t.seconds
-  pub volume : u.volume ≡ t.volume -ℤ i.average *ℤ pos i.seconds
-
 abbrev energy : Interval → ℤ
 energy i = i.average *ℤ pos i.seconds
 
--- The tally of intervals around a place, with one in it, from that without it; and the other way.
+-- Tallies that are the same with one interval more are the same without it.
+same_without : (t u : Tally) (i : Interval) → with_interval t i ≡ with_interval u i → t ≡ u
+same_without t u i e =
+    let n : t.intervals ≡ u.intervals = omega (arith, ap (λ (t : Tally). t.intervals) e) in
+    let s : t.seconds ≡ u.seconds = omega (arith, ap (λ (t : Tally). t.seconds) e) in
+    let v = without t.volume u.volume (energy i) (ap (λ (t : Tally). t.volume) e) in
+    λ k. record { intervals = n k; seconds = s k; volume = v k }
+  where
+    without : (a b x : ℤ) → a +ℤ x ≡ b +ℤ x → a ≡ b
+    without a b x e = omega (arith, ints)
+
+-- The tally of intervals around a place, with one in it, from that without it.
 module _ (is js : List Interval) (i : Interval) where
   long : length (is ++ i ∷ js) ≡ length (is ++ js) + 1
   long = omega (arith, length-append is (i ∷ js), length-append is js)
@@ -85,44 +90,26 @@ module _ (is js : List Interval) (i : Interval) where
       around : (a b x : ℤ) → a +ℤ (x +ℤ b) ≡ a +ℤ b +ℤ x
       around a b x = omega (arith, ints)
 
-  tally_with : (t u : Tally) → t ≡ tally_of (is ++ js) → Adds t u i → u ≡ tally_of (is ++ i ∷ js)
-  tally_with t u e a =
-      let n = a.intervals ∙ ap (λ (t : Tally). t.intervals + 1) e ∙ sym long in
-      let s = a.seconds ∙ ap (λ (t : Tally). t.seconds + i.seconds) e ∙ sym lasting in
-      let v = a.volume ∙ ap (λ (t : Tally). t.volume +ℤ energy i) e ∙ sym holding in
-      λ k. record { intervals = n k; seconds = s k; volume = v k }
-
-  tally_without : (t u : Tally) → t ≡ tally_of (is ++ i ∷ js) → Removes t u i → u ≡ tally_of (is ++ js)
-  tally_without t u e a =
-      let n : u.intervals ≡ length (is ++ js) = omega (arith, a.intervals, ap (λ (t : Tally). t.intervals) e, long) in
-      let s : u.seconds ≡ sum_by (λ i. i.seconds) (is ++ js) = omega (arith, a.seconds, ap (λ (t : Tally). t.seconds) e, lasting) in
-      let v = a.volume ∙ ap (λ (t : Tally). t.volume -ℤ energy i) e ∙ ap (λ z. z -ℤ energy i) holding ∙ back (sum_ℤ energy (is ++ js)) (energy i) in
-      λ k. record { intervals = n k; seconds = s k; volume = v k }
-    where
-      back : (a x : ℤ) → a +ℤ x -ℤ x ≡ a
-      back a x = omega (arith, ints)
+  tally_around : with_interval (tally_of (is ++ js)) i ≡ tally_of (is ++ i ∷ js)
+  tally_around = λ k. record { intervals = sym long k; seconds = sym lasting k; volume = sym holding k }
 
 -- The same of the records of an hour.
 module _ (xs : List (Option Interval)) (k : ℕ) (l : k < length xs) where
-  pub slot_filled : (i : Interval) (t u : Tally) → t ≡ tally_of (flat_map option_to_list (set xs k None)) → Adds t u i → u ≡ tally_of (flat_map option_to_list (set xs k (Some i)))
+  pub slot_filled : (i : Interval) (t u : Tally) → t ≡ tally_of (flat_map option_to_list (set xs k None)) → u ≡ with_interval t i → u ≡ tally_of (flat_map option_to_list (set xs k (Some i)))
   slot_filled i t u e a =
-      tally_with (flat_map option_to_list (take k xs)) (flat_map option_to_list (drop (suc k) xs)) i t u (e ∙ ap tally_of (standing_set xs k None l)) a ∙ ap tally_of (sym (standing_set xs k (Some i) l))
+      a ∙ ap (λ t. with_interval t i) (e ∙ ap tally_of (standing_set xs k None l)) ∙ tally_around (flat_map option_to_list (take k xs)) (flat_map option_to_list (drop (suc k) xs)) i ∙ ap tally_of (sym (standing_set xs k (Some i) l))
 
-  pub slot_cleared : (i : Interval) (t u : Tally) → get_or xs k None ≡ Some i → t ≡ tally_of (flat_map option_to_list xs) → Removes t u i → u ≡ tally_of (flat_map option_to_list (set xs k None))
+  pub slot_cleared : (i : Interval) (t u : Tally) → get_or xs k None ≡ Some i → t ≡ tally_of (flat_map option_to_list xs) → t ≡ with_interval u i → u ≡ tally_of (flat_map option_to_list (set xs k None))
   slot_cleared i t u at e a =
       let whole = ap (flat_map option_to_list) (sym (set-get_or xs k None) ∙ ap (set xs k) at) ∙ standing_set xs k (Some i) l in
-      tally_without (flat_map option_to_list (take k xs)) (flat_map option_to_list (drop (suc k) xs)) i t u (e ∙ ap tally_of whole) a ∙ ap tally_of (sym (standing_set xs k None l))
+      let around = tally_around (flat_map option_to_list (take k xs)) (flat_map option_to_list (drop (suc k) xs)) i in
+      same_without u _ i (sym a ∙ e ∙ ap tally_of whole ∙ sym around) ∙ ap tally_of (sym (standing_set xs k None l))
 
   pub slot_empty : get_or xs k None ≡ None → set xs k None ≡ xs
   slot_empty at = ap (set xs k) (sym at) ∙ set-get_or xs k None
 
 -- The tally of an hour's records is small.
-pub record Small (t : Tally) : Type 0 where
-  pub few : t.intervals ≤ 24
-  pub short : t.seconds ≤ 24 * 3600
-  pub small : nat_abs t.volume ≤ 24 * 7200000000
-
-pub tally_small : (xs : List (Option Interval)) (t : Tally) → length xs ≡ 24 → All Fair (flat_map option_to_list xs) → t ≡ tally_of (flat_map option_to_list xs) → Small t
+pub tally_small : (xs : List (Option Interval)) (t : Tally) → length xs ≡ 24 → All Fair (flat_map option_to_list xs) → t ≡ tally_of (flat_map option_to_list xs) → TallyWithin 24 t
 tally_small xs t n h e =
     let is = flat_map option_to_list xs in
     let few = standing_length xs in

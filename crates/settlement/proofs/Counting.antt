@@ -1,5 +1,5 @@
 -- Counting the records of an hour, one place after another.
-use Rattle.std.proofs.Common.{◌≡◌, ℕ, ◌+◌, ◌*◌, ◌<◌, ◌≤◌, List, [], ◌∷◌, ◌++◌, length, get_or, take, drop, pos, ◌+ℤ◌, ◌*ℤ◌, nat_abs, Some, None, Option, sym, refl, ap, ◌∙◌, mul-le-mul, arith}
+use Rattle.std.proofs.Common.{◌≡◌, ℕ, ◌+◌, ◌<◌, List, [], ◌∷◌, ◌++◌, length, get_or, take, drop, pos, ◌*ℤ◌, nat_abs, Some, None, Option, sym, refl, ap, ◌∙◌, mul-le-mul, arith}
 use Rattle.std.specs.List.{flat_map}
 use Rattle.std.specs.Option.{option_to_list}
 use Rattle.std.proofs.lemmas.List.{length_push, take-append-drop, append-nil}
@@ -14,19 +14,15 @@ use Rattle.settlement.specs.Rulings.{first}
 use Rattle.settlement.specs.Limits.{interval_refusal, each_refusal}
 use Rattle.settlement.proofs.Ranges.{sound}
 use Rattle.settlement.proofs.Rulings.{first_none, first_assoc}
-use Rattle.settlement.specs.Standing.{tally_of}
+use Rattle.settlement.specs.Standing.{tally_of, with_interval}
+use Rattle.settlement.specs.Bounds.{TallyWithin}
 
--- What an interval adds to a tally.
-pub record Adds (t u : Tally) (i : Interval) : Type 0 where
-  pub intervals : u.intervals ≡ t.intervals + 1
-  pub seconds : u.seconds ≡ t.seconds + i.seconds
-  pub volume : u.volume ≡ t.volume +ℤ i.average *ℤ pos i.seconds
-
-tally_push : (is : List Interval) (i : Interval) (t u : Tally) → t ≡ tally_of is → Adds t u i → u ≡ tally_of (is ++ i ∷ [])
-tally_push is i t u e a =
-    let n = a.intervals ∙ ap (λ (t : Tally). t.intervals + 1) e ∙ sym (length_push is i) in
-    let s = a.seconds ∙ ap (λ (t : Tally). t.seconds + i.seconds) e ∙ sym (sum_by_push (λ (i : Interval). i.seconds) is i) in
-    let v = a.volume ∙ ap (λ (t : Tally). t.volume +ℤ i.average *ℤ pos i.seconds) e ∙ sym (sum_ℤ-push (λ (i : Interval). i.average *ℤ pos i.seconds) is i) in
+-- The tally of one interval more.
+tally_push : (is : List Interval) (i : Interval) → with_interval (tally_of is) i ≡ tally_of (is ++ i ∷ [])
+tally_push is i =
+    let n = sym (length_push is i) in
+    let s = sym (sum_by_push (λ (i : Interval). i.seconds) is i) in
+    let v = sym (sum_ℤ-push (λ (i : Interval). i.average *ℤ pos i.seconds) is i) in
     λ k. record { intervals = n k; seconds = s k; volume = v k }
 
 pub refusal_append : (is js : List Interval) → each_refusal (is ++ js) ≡ first (each_refusal is) (each_refusal js)
@@ -39,9 +35,7 @@ refusal_append (i ∷ is) js =
 pub record Counted (xs : List (Option Interval)) (k : ℕ) (t : Tally) : Type 0 where
   pub is : t ≡ tally_of (flat_map option_to_list (take k xs))
   pub passed : each_refusal (flat_map option_to_list (take k xs)) ≡ None
-  pub few : t.intervals ≤ k
-  pub short : t.seconds ≤ k * 3600
-  pub small : nat_abs t.volume ≤ k * 7200000000
+  pub room : TallyWithin k t
 
 pub counted_none : (xs : List (Option Interval)) (t : Tally) → (t.intervals ≡ 0) × ((t.seconds ≡ 0) × (t.volume ≡ pos 0)) → Counted xs 0 t
 unfolding each_refusal
@@ -50,9 +44,7 @@ counted_none xs t zero =
     record {
       is = λ k. record { intervals = zero.0 k; seconds = zero.1.0 k; volume = volume k };
       passed = refl;
-      few = omega (arith, zero.0);
-      short = omega (arith, zero.1.0);
-      small = omega (arith, ap nat_abs zero.1.1);
+      room = record { few = omega (arith, zero.0); short = omega (arith, zero.1.0); small = omega (arith, ap nat_abs zero.1.1) };
     }
 
 pub counted_empty : (xs : List (Option Interval)) (k : ℕ) (t : Tally) → k < length xs → get_or xs k None ≡ None → Counted xs k t → Counted xs (k + 1) t
@@ -61,13 +53,11 @@ counted_empty xs k t l e c =
     record {
       is = c.is ∙ ap tally_of (sym more);
       passed = ap each_refusal more ∙ c.passed;
-      few = omega (arith, c.few);
-      short = omega (arith, c.short);
-      small = omega (arith, c.small);
+      room = record { few = omega (arith, c.room.few); short = omega (arith, c.room.short); small = omega (arith, c.room.small) };
     }
 
 pub counted_more : (xs : List (Option Interval)) (k : ℕ) (t t' : Tally) (i : Interval) → k < length xs → get_or xs k None ≡ Some i
-    → interval_refusal i ≡ None → Counted xs k t → Adds t t' i → Counted xs (k + 1) t'
+    → interval_refusal i ≡ None → Counted xs k t → t' ≡ with_interval t i → Counted xs (k + 1) t'
 unfolding each_refusal
 counted_more xs k t t' i l e ok c q =
     let s = sound i ok in
@@ -75,11 +65,14 @@ counted_more xs k t t' i l e ok c q =
     let more : flat_map option_to_list (take (k + 1) xs) ≡ is ++ i ∷ [] = standing_more xs k l ∙ ap (λ o. flat_map option_to_list (take k xs) ++ option_to_list o) e in
     let one : each_refusal (i ∷ []) ≡ None = first_none (interval_refusal i) None ok in
     record {
-      is = tally_push is i t t' c.is q ∙ ap tally_of (sym more);
+      is = q ∙ ap (λ t. with_interval t i) c.is ∙ tally_push is i ∙ ap tally_of (sym more);
       passed = ap each_refusal more ∙ refusal_append is (i ∷ []) ∙ first_none (each_refusal is) (each_refusal (i ∷ [])) c.passed ∙ one;
-      few = omega (arith, q.intervals, c.few);
-      short = omega (arith, q.seconds, c.short, s.most);
-      small = omega (arith, ap nat_abs q.volume, c.small, abs_sum t.volume (i.average *ℤ pos i.seconds), abs_product i.average (pos i.seconds), mul-le-mul s.average.size s.most);
+      room =
+          record {
+            few = omega (arith, ap (λ (t : Tally). t.intervals) q, c.room.few);
+            short = omega (arith, ap (λ (t : Tally). t.seconds) q, c.room.short, s.most);
+            small = omega (arith, ap (λ (t : Tally). nat_abs t.volume) q, c.room.small, abs_sum t.volume (i.average *ℤ pos i.seconds), abs_product i.average (pos i.seconds), mul-le-mul s.average.size s.most);
+          };
     }
 
 -- A place that breaks a limit after others that break none is the first that does.

@@ -23,6 +23,11 @@ pub none : {F : Type 0} (o : Option F) → is_some o ≡ false → o ≡ None
 none None e = refl
 none (Some r) e = let z : ◌≡◌ {A = ℕ} 0 1 = cc in absurd (omega arith)
 
+-- What can't be refused is not.
+pub not_refused : {F : Type 0} (o : Option F) → ((o ≡ None → ⊥) → ⊥) → o ≡ None
+not_refused None n = refl
+not_refused (Some r) n = absurd (n (λ e. let z : ◌≡◌ {A = ℕ} 0 1 = cc in absurd (omega arith)))
+
 -- What an answer tells of the ruling.
 pub ruled_ok : {A F : Type 0} (o : Option F) (a x : A) → Ok x ≡ ruled o a → (o ≡ None) × (x ≡ a)
 ruled_ok None a x e = (refl, cc)

@@ -13,7 +13,8 @@ use Rattle.settlement.specs.declared.figures.Schedule.{Schedule}
 use Rattle.settlement.specs.declared.figures.Standing.{Standing}
 use Rattle.settlement.specs.declared.figures.Sums.{Sums}
 use Rattle.settlement.specs.Editions.{Terms}
-use Rattle.settlement.specs.Formulas.{figures, sums, no_sums}
+use Rattle.settlement.specs.Formulas.{figures, sums, with_figures, no_sums}
+use Rattle.settlement.specs.Bounds.{FiguresWithin, SumsWithin}
 
 -- One figure, summed over the first k places, and at most B for each.
 pub record Sum (f : Interval → ℤ) (B : ℕ) (xs : List (Option Interval)) (k : ℕ) (s : ℤ) : Type 0 where
@@ -66,32 +67,17 @@ module _ (e : Terms) (r : Region) (g : Schedule) (h : Standing) (k : ℕ) (s : S
         spin = sum_empty _ 1206000000000 h.records k _ l at c.spin;
       }
 
--- What an interval adds, and that it is small.
-pub record Adds (s t : Sums) (seconds : ℕ) (f : IntervalFigures) : Type 0 where
-  pub balance : t.balance ≡ s.balance +ℤ f.balance *ℤ pos seconds
-  pub energy : t.energy ≡ s.energy +ℤ f.energy
-  pub loss : t.loss ≡ s.loss +ℤ f.loss
-  pub congestion : t.congestion ≡ s.congestion +ℤ f.congestion
-  pub spin : t.spin ≡ s.spin +ℤ f.spin
-
-pub record Small (f : IntervalFigures) : Type 0 where
-  pub balance : nat_abs f.balance ≤ 1206000000
-  pub energy : nat_abs f.energy ≤ 1206000000000
-  pub loss : nat_abs f.loss ≤ 1206000000000
-  pub congestion : nat_abs f.congestion ≤ 1206000000000
-  pub spin : nat_abs f.spin ≤ 1206000000000
-
 pub summed_more :
     (e : Terms) (r : Region) (g : Schedule) (h : Standing) (k : ℕ) (s t : Sums) (i : Interval) (f : IntervalFigures) → Summed e r g h k s → k < length h.records
-    → get_or h.records k None ≡ Some i → i.seconds ≤ 3600 → f ≡ figures e r g h i → Small f → Adds s t i.seconds f → Summed e r g h (k + 1) t
+    → get_or h.records k None ≡ Some i → i.seconds ≤ 3600 → f ≡ figures e r g h i → FiguresWithin f → t ≡ with_figures s i.seconds f → Summed e r g h (k + 1) t
 summed_more e r g h k s t i f c l at short is small adds =
     let over : nat_abs (f.balance *ℤ pos i.seconds) ≤ 4341600000000 = omega (arith, abs_product f.balance (pos i.seconds), mul-le-mul small.balance short) in
     record {
-      balance = sum_more _ 4341600000000 h.records k _ _ _ i l at c.balance adds.balance (ap (λ (f : IntervalFigures). f.balance *ℤ pos i.seconds) is) over;
-      energy = sum_more _ 1206000000000 h.records k _ _ _ i l at c.energy adds.energy (ap (λ (f : IntervalFigures). f.energy) is) small.energy;
-      loss = sum_more _ 1206000000000 h.records k _ _ _ i l at c.loss adds.loss (ap (λ (f : IntervalFigures). f.loss) is) small.loss;
-      congestion = sum_more _ 1206000000000 h.records k _ _ _ i l at c.congestion adds.congestion (ap (λ (f : IntervalFigures). f.congestion) is) small.congestion;
-      spin = sum_more _ 1206000000000 h.records k _ _ _ i l at c.spin adds.spin (ap (λ (f : IntervalFigures). f.spin) is) small.spin;
+      balance = sum_more _ 4341600000000 h.records k _ _ _ i l at c.balance (ap (λ (s : Sums). s.balance) adds) (ap (λ (f : IntervalFigures). f.balance *ℤ pos i.seconds) is) over;
+      energy = sum_more _ 1206000000000 h.records k _ _ _ i l at c.energy (ap (λ (s : Sums). s.energy) adds) (ap (λ (f : IntervalFigures). f.energy) is) small.energy;
+      loss = sum_more _ 1206000000000 h.records k _ _ _ i l at c.loss (ap (λ (s : Sums). s.loss) adds) (ap (λ (f : IntervalFigures). f.loss) is) small.loss;
+      congestion = sum_more _ 1206000000000 h.records k _ _ _ i l at c.congestion (ap (λ (s : Sums). s.congestion) adds) (ap (λ (f : IntervalFigures). f.congestion) is) small.congestion;
+      spin = sum_more _ 1206000000000 h.records k _ _ _ i l at c.spin (ap (λ (s : Sums). s.spin) adds) (ap (λ (f : IntervalFigures). f.spin) is) small.spin;
     }
 
 -- All places summed are the sums of the hour.
@@ -104,3 +90,14 @@ summed_all e r g h k s l c =
     let p = c.congestion.is ∙ whole _ in
     let q = c.spin.is ∙ whole _ in
     λ j. record { balance = b j; energy = n j; loss = o j; congestion = p j; spin = q j }
+
+-- The sums over some places are as small as so many intervals allow.
+pub summed_within : (e : Terms) (r : Region) (g : Schedule) (h : Standing) (k n : ℕ) (s : Sums) → k ≤ n → Summed e r g h k s → SumsWithin n s
+summed_within e r g h k n s l c =
+    record {
+      balance = omega (arith, c.balance.size);
+      energy = omega (arith, c.energy.size);
+      loss = omega (arith, c.loss.size);
+      congestion = omega (arith, c.congestion.size);
+      spin = omega (arith, c.spin.size);
+    }

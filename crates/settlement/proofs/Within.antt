@@ -1,9 +1,12 @@
 -- What is known of the figures of an hour that breaks no limit.
 use Rattle.std.proofs.Common.{◌≡◌, ℕ, ◌*◌, ◌≤◌, Bool, true, false, cond, eqb, leb, List, [], ◌∷◌, ℤ, pos, negsuc, ◌*ℤ◌, nat_abs, ◌≤ℤ◌, is_some, Some, None, Option, sym, ap, ◌∙◌, subst, mul-le-mul_left, arith}
 use borrow.Author.Differences.{ints}
-use Rattle.std.specs.List.{All, Contains}
+use Rattle.std.specs.List.{All}
 use Rattle.std.proofs.lemmas.List.Elements.{All-nil, All-cons, All-weaker, All-contains}
 use Rattle.std.proofs.lemmas.Bool.{leb-true}
+use Rattle.std.proofs.Math.Bridge.{le_prop}
+use Rattle.std.proofs.Math.Logic.{∥∥₁_elim}
+use Rattle.std.proofs.lemmas.Grind.{not_there}
 use Rattle.arithmetic.proofs.Sums.{sum_ℤ_positive, sum_ℤ_part}
 use Rattle.settlement.specs.declared.figures.Interval.{Interval}
 use Rattle.settlement.specs.declared.figures.Schedule.{Schedule}
@@ -11,10 +14,10 @@ use Rattle.settlement.specs.declared.figures.Standing.{Standing}
 use Rattle.settlement.specs.declared.limits.Refusal.TheVariants.{Overfull}
 use Rattle.settlement.specs.Rulings.{optional}
 use Rattle.settlement.specs.Limits.{interval_refusal, schedule_refusal, reading_refusal, each_refusal, records_refusal, hour_refusal}
-use Rattle.settlement.specs.Standing.{intervals, seconds, volume}
+use Rattle.settlement.specs.Standing.{intervals, StandsIn, seconds, volume}
 use Rattle.settlement.specs.Formulas.{settled_by}
-use Rattle.settlement.proofs.Rulings.{passed, neither, none}
-use Rattle.settlement.proofs.Ranges.{Power, Sound, sound, metered}
+use Rattle.settlement.proofs.Rulings.{passed, neither, none, not_refused}
+use Rattle.settlement.proofs.Ranges.{Power, Sound, sound, Sold, sold, metered}
 
 abbrev pub Fair : Interval → Type 0
 Fair i = interval_refusal i ≡ None
@@ -46,14 +49,24 @@ settling_row h g e = of_two (eqb (seconds h) 3600) h.schedule e
     of_two true o e = sym e
     of_two false o e = let z : ◌≡◌ {A = ℕ} 0 1 = cc in absurd (omega arith)
 
-pub fair_one : (h : Standing) (i : Interval) → Within h → Contains (intervals h) i → interval_refusal i ≡ None
-fair_one h i w one = All-contains Fair (intervals h) i w.fair one
+pub fair_one : (h : Standing) (i : Interval) → Within h → StandsIn h i → interval_refusal i ≡ None
+fair_one h i w stands = not_refused (interval_refusal i) (λ refused. not_there stands (λ one. refused (All-contains Fair (intervals h) i w.fair one)))
 
-pub sound_one : (h : Standing) (i : Interval) → Within h → Contains (intervals h) i → Sound i
+pub sound_one : (h : Standing) (i : Interval) → Within h → StandsIn h i → Sound i
 sound_one h i w one = sound i (fair_one h i w one)
 
 pub row_fair : (h : Standing) (g : Schedule) → Within h → h.schedule ≡ Some g → schedule_refusal g ≡ None
 row_fair h g w e = sym (ap (optional schedule_refusal) e) ∙ w.schedule
+
+-- The row and an interval that settle an hour are within their limits.
+pub record Settles (g : Schedule) (i : Interval) : Type 0 where
+  pub row : Sold g
+  pub interval : Sound i
+
+pub settles : (h : Standing) (g : Schedule) (i : Interval) → is_some (hour_refusal h) ≡ false → h.schedule ≡ Some g → StandsIn h i → Settles g i
+settles h g i e row stands =
+    let w = within h e in
+    record { row = sold g (row_fair h g w row); interval = sound_one h i w stands }
 
 pub reading_metered : (h : Standing) (m : ℤ) → Within h → h.reading ≡ Some m → Power m
 reading_metered h m w e = metered m (sym (ap (optional reading_refusal) e) ∙ w.reading)
@@ -71,12 +84,13 @@ energies h w =
 pub volume_positive : (h : Standing) → Within h → pos 0 ≤ℤ volume h
 volume_positive h w = sum_ℤ_positive (λ (i : Interval). i.average *ℤ pos i.seconds) (intervals h) (energies h w)
 
-pub volume_part : (h : Standing) (i : Interval) → Within h → Contains (intervals h) i → 6 * nat_abs i.average ≤ nat_abs (volume h)
-volume_part h i w one =
+pub volume_part : (h : Standing) (i : Interval) → Within h → StandsIn h i → 6 * nat_abs i.average ≤ nat_abs (volume h)
+volume_part h i w stands =
+    let s = sound_one h i w stands in
+    ∥∥₁_elim stands le_prop (λ one.
     let part = sum_ℤ_part (λ (i : Interval). i.average *ℤ pos i.seconds) (intervals h) one.0 i one.1 (energies h w) in
     let at : (i.average *ℤ pos i.seconds) ≤ℤ volume h = subst (λ (j : Interval). (j.average *ℤ pos j.seconds) ≤ℤ volume h) one.2 part in
-    let s = sound_one h i w one in
-    sixfold i.average i.seconds (volume h) s.average.low s.least at
+    sixfold i.average i.seconds (volume h) s.average.low s.least at)
   where
     sixfold : (a : ℤ) (s : ℕ) (v : ℤ) → pos 0 ≤ℤ a → 6 ≤ s → (a *ℤ pos s) ≤ℤ v → 6 * nat_abs a ≤ nat_abs v
     sixfold (pos a) s v l h k = let m = mul-le-mul_left a h in omega (arith, ints)

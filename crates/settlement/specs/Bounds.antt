@@ -1,7 +1,32 @@
--- How large the figures of a line can be: so small that those of a day add up without overflow.
-use Rattle.std.specs.Prelude.{◌^◌, Bool, ◌&&◌, ℤ, nat_le, unsigned_abs}
+-- How large the figures of an hour can be, and those of its line: so small that those of a day add up without overflow.
+use Rattle.std.specs.Prelude.{ℕ, ◌*◌, ◌^◌, ◌≤◌, Bool, ◌&&◌, ℤ, nat_le, unsigned_abs}
 use Rattle.settlement.specs.declared.figures.Amounts.{Amounts}
 use Rattle.settlement.specs.declared.figures.HourLine.{HourLine}
+use Rattle.settlement.specs.declared.figures.IntervalFigures.{IntervalFigures}
+use Rattle.settlement.specs.declared.figures.Sums.{Sums}
+use Rattle.settlement.specs.declared.figures.Tally.{Tally}
+
+-- A tally of at most n intervals: each of at most 3,600 seconds, at an average of at most 2,000,000 kW.
+pub record TallyWithin (n : ℕ) (t : Tally) : Type 0 where
+  pub few : t.intervals ≤ n
+  pub short : t.seconds ≤ n * 3600
+  pub small : unsigned_abs t.volume ≤ n * 7200000000
+
+-- What an interval can come to: a balance in kW, and amounts in cents at the largest price over an hour.
+pub record FiguresWithin (f : IntervalFigures) : Type 0 where
+  pub balance : unsigned_abs f.balance ≤ 1206000000
+  pub energy : unsigned_abs f.energy ≤ 1206000000000
+  pub loss : unsigned_abs f.loss ≤ 1206000000000
+  pub congestion : unsigned_abs f.congestion ≤ 1206000000000
+  pub spin : unsigned_abs f.spin ≤ 1206000000000
+
+-- What n intervals can come to together: their balances in kW seconds, and their amounts.
+pub record SumsWithin (n : ℕ) (s : Sums) : Type 0 where
+  pub balance : unsigned_abs s.balance ≤ n * 4341600000000
+  pub energy : unsigned_abs s.energy ≤ n * 1206000000000
+  pub loss : unsigned_abs s.loss ≤ n * 1206000000000
+  pub congestion : unsigned_abs s.congestion ≤ n * 1206000000000
+  pub spin : unsigned_abs s.spin ≤ n * 1206000000000
 
 -- A figure of at most 2 ^ 47 in size.
 abbrev pub is_small : ℤ → Bool

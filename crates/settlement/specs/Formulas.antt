@@ -81,6 +81,17 @@ sums e r g h is =
       spin = sum_ℤ (λ i. (figures e r g h i).spin) is;
     }
 
+-- Sums with the figures of one interval more, of some seconds.
+abbrev pub with_figures : Sums → ℕ → IntervalFigures → Sums
+with_figures s seconds f =
+    record {
+      balance = s.balance +ℤ f.balance *ℤ pos seconds;
+      energy = s.energy +ℤ f.energy;
+      loss = s.loss +ℤ f.loss;
+      congestion = s.congestion +ℤ f.congestion;
+      spin = s.spin +ℤ f.spin;
+    }
+
 -- What no intervals come to.
 abbrev pub no_sums : Sums
 no_sums = record { balance = pos 0; energy = pos 0; loss = pos 0; congestion = pos 0; spin = pos 0 }

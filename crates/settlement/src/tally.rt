@@ -4,7 +4,8 @@ ghost use Rattle.std.specs.List.{flat_map};
 ghost use Rattle.std.specs.Option.{option_to_list};
 ghost use Rattle.settlement.specs.Rulings.{ruled, optional};
 ghost use Rattle.settlement.specs.Limits.{interval_refusal, schedule_refusal, reading_refusal, each_refusal, hour_refusal};
-ghost use Rattle.settlement.specs.Standing.{intervals, tally_of};
+ghost use Rattle.settlement.specs.Bounds.{TallyWithin};
+ghost use Rattle.settlement.specs.Standing.{intervals, tally_of, with_interval};
 
 use crate::figures::{Interval, Standing, Tally};
 use crate::limits::{Refusal, check_reading};
@@ -13,12 +14,8 @@ impl Tally {
     // One interval more. There is room for those of an hour.
     pub(crate) fn count(&mut self, interval: &Interval)
         requires fair { interval_refusal interval.now ≡ None }
-        requires few { self.old.intervals ≤ 24 }
-        requires short { self.old.seconds ≤ 24 * 3600 }
-        requires small { unsigned_abs self.old.volume ≤ 24 * 7200000000 }
-        ensures intervals { self.new.intervals ≡ self.old.intervals + 1 }
-        ensures seconds { self.new.seconds ≡ self.old.seconds + interval.now.seconds }
-        ensures volume { self.new.volume ≡ self.old.volume +ℤ interval.now.average *ℤ pos interval.now.seconds }
+        requires room { TallyWithin 24 self.old }
+        ensures { self.new ≡ with_interval self.old interval.now }
     {
         self.intervals += 1;
         self.seconds += interval.seconds as u32;
@@ -30,10 +27,8 @@ impl Tally {
         requires fair { interval_refusal interval.now ≡ None }
         requires few { 1 ≤ self.old.intervals }
         requires short { interval.now.seconds ≤ self.old.seconds }
-        requires small { unsigned_abs self.old.volume ≤ 24 * 7200000000 }
-        ensures intervals { self.new.intervals + 1 ≡ self.old.intervals }
-        ensures seconds { self.new.seconds + interval.now.seconds ≡ self.old.seconds }
-        ensures volume { self.new.volume ≡ self.old.volume -ℤ interval.now.average *ℤ pos interval.now.seconds }
+        requires room { TallyWithin 24 self.old }
+        ensures { self.old ≡ with_interval self.new interval.now }
     {
         self.intervals -= 1;
         self.seconds -= interval.seconds as u32;

@@ -1,12 +1,13 @@
 // The line of an hour, and the figures of the interval in a slot.
 ghost use Rattle.std.specs.Prelude.{◌≡◌, ◌*◌, ◌≤◌, true, None, slice_index_or, unsigned_abs};
-ghost use Rattle.settlement.specs.Bounds.{is_small_line, is_short_line};
+ghost use Rattle.settlement.specs.Bounds.{SumsWithin, is_small_line, is_short_line};
 ghost use Rattle.settlement.specs.Nearness.{NearWhereSettled, SharesReading, SignFree};
 ghost use Rattle.settlement.specs.Formulas.{settled_by, settled_sums, ahead as ahead_ℤ, line_of, hour_line, figures_at};
 
 use crate::editions::{Edition, Sign};
 use crate::figures::{Amounts, HourLine, Interval, IntervalFigures, Region, Schedule, State, Sums};
 use crate::hour::Hour;
+use crate::hour::settling::Settling;
 use crate::limits::Refusal;
 
 impl Hour {
@@ -24,11 +25,7 @@ impl Hour {
     // What the hour's intervals come to: nothing where it is not settled.
     fn settled_sums<E: Edition>(&self, edition: &E, region: Region) -> Sums
         ensures value { result ≡ settled_sums (E.Edition.terms edition.now) region self.now.standing (settled_by self.now.standing) }
-        ensures balance { unsigned_abs result.balance ≤ 24 * 4341600000000 }
-        ensures energy { unsigned_abs result.energy ≤ 24 * 1206000000000 }
-        ensures loss { unsigned_abs result.loss ≤ 24 * 1206000000000 }
-        ensures congestion { unsigned_abs result.congestion ≤ 24 * 1206000000000 }
-        ensures spin { unsigned_abs result.spin ≤ 24 * 1206000000000 }
+        ensures within { SumsWithin 24 result }
     {
         match self.settled_by() {
             Some(row) => self.sums(edition, region, &row),
@@ -48,11 +45,7 @@ impl Hour {
 
     // The line, from what the intervals come to.
     fn close(&self, sign: Sign, sums: &Sums) -> HourLine
-        requires balance { unsigned_abs sums.now.balance ≤ 24 * 4341600000000 }
-        requires energy { unsigned_abs sums.now.energy ≤ 24 * 1206000000000 }
-        requires loss { unsigned_abs sums.now.loss ≤ 24 * 1206000000000 }
-        requires congestion { unsigned_abs sums.now.congestion ≤ 24 * 1206000000000 }
-        requires spin { unsigned_abs sums.now.spin ≤ 24 * 1206000000000 }
+        requires within { SumsWithin 24 sums.now }
         ensures value { result ≡ line_of sign self.now.standing sums.now }
         ensures small { is_small_line result ≡ true }
         ensures short { is_short_line result ≡ true }
@@ -112,6 +105,13 @@ impl Hour {
         let Some(row) = self.settled_by() else {
             return Err(Refusal::Unsettled);
         };
-        Ok(self.settle(edition, region, &row, &interval))
+        let settling = Settling {
+            hour: self,
+            edition,
+            region,
+            row: &row,
+            interval: &interval,
+        };
+        Ok(settling.figures())
     }
 }

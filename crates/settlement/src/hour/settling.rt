@@ -1,53 +1,84 @@
 // Settling an hour: the figures of its intervals, their sums, and its line.
-ghost use Rattle.std.specs.Prelude.{◌≡◌, ◌*◌, ◌≤◌, pos, ◌+ℤ◌, ◌-ℤ◌, ◌*ℤ◌, Some, None, unsigned_abs, Contains};
-ghost use Rattle.settlement.specs.Limits.{interval_refusal, schedule_refusal};
-ghost use Rattle.settlement.specs.Standing.{intervals};
-ghost use Rattle.settlement.specs.Formulas.{amount as amount_ℤ, spin_price, figures as figures_ℤ, sums as sums_ℤ};
+ghost use Rattle.std.specs.Prelude.{◌≡◌, ◌*◌, ◌≤◌, pos, ◌+ℤ◌, ◌-ℤ◌, ◌*ℤ◌, Some, None, unsigned_abs};
+ghost use Rattle.settlement.specs.Standing.{intervals, StandsIn};
+ghost use Rattle.settlement.specs.Formulas.{amount as amount_ℤ, spin_price, figures as figures_ℤ, sums as sums_ℤ, with_figures};
+ghost use Rattle.settlement.specs.Bounds.{FiguresWithin, SumsWithin};
 
 use crate::amounts::amount;
 use crate::editions::Edition;
 use crate::figures::{Interval, IntervalFigures, Region, Schedule, Sums};
 use crate::hour::Hour;
 
-// What is due of an interval beyond the schedule, with the change in transactions set off.
-fn balance(basis: i64, row: &Schedule, interval: &Interval) -> i64
-    requires basis { unsigned_abs basis ≤ 1200000000 }
-    requires row { schedule_refusal row.now ≡ None }
-    requires interval { interval_refusal interval.now ≡ None }
-    ensures value { result ≡ basis -ℤ row.now.generation -ℤ (interval.now.transactions -ℤ row.now.transactions) }
-    ensures bound { unsigned_abs result ≤ 1206000000 }
-{
-    basis - row.generation as i64 - (interval.transactions as i64 - row.transactions as i64)
+// An interval of an hour, and what settles it: an edition, a region, and the hour's schedule row.
+#[derive(Drop)]
+pub(super) struct Settling<'a, E> {
+    pub(super) hour: &'a Hour,
+    pub(super) edition: &'a E,
+    pub(super) region: Region,
+    pub(super) row: &'a Schedule,
+    pub(super) interval: &'a Interval,
+    ghost sold: { hour.now.standing.schedule ≡ Some row.now },
+    ghost stands: { StandsIn hour.now.standing interval.now },
 }
 
-// What an interval's reserve comes to beyond the schedule.
-fn spin(region: Region, row: &Schedule, interval: &Interval) -> i64
-    requires row { schedule_refusal row.now ≡ None }
-    requires interval { interval_refusal interval.now ≡ None }
-    ensures value { result ≡ amount_ℤ (interval.now.spin -ℤ row.now.spin) (spin_price region interval.now.reserve) interval.now.seconds }
-    ensures bound { unsigned_abs result ≤ 1206000000000 }
-{
-    amount(
-        interval.spin as i64 - row.spin as i64,
-        interval.reserve.of(region),
-        interval.seconds,
-    )
+impl<E: Edition> Settling<'_, E> {
+    // What is due beyond the schedule, with the change in transactions set off.
+    fn balance(&self, basis: i64) -> i64
+        requires { unsigned_abs basis ≤ 1200000000 }
+        ensures value { result ≡ basis -ℤ self.now.row.now.generation -ℤ (self.now.interval.now.transactions -ℤ self.now.row.now.transactions) }
+        ensures bound { unsigned_abs result ≤ 1206000000 }
+    {
+        basis
+            - self.row.generation as i64
+            - (self.interval.transactions as i64 - self.row.transactions as i64)
+    }
+
+    // What the reserve comes to beyond the schedule.
+    fn spin(&self) -> i64
+        ensures value { result ≡ amount_ℤ (self.now.interval.now.spin -ℤ self.now.row.now.spin) (spin_price self.now.region self.now.interval.now.reserve) self.now.interval.now.seconds }
+        ensures bound { unsigned_abs result ≤ 1206000000000 }
+    {
+        amount(
+            self.interval.spin as i64 - self.row.spin as i64,
+            self.interval.reserve.of(self.region),
+            self.interval.seconds,
+        )
+    }
+
+    // What the interval comes to.
+    pub(super) fn figures(&self) -> IntervalFigures
+        ensures value { result ≡ figures_ℤ (E.Edition.terms self.now.edition.now) self.now.region self.now.row.now self.now.hour.now.standing self.now.interval.now }
+        ensures within { FiguresWithin result }
+    {
+        let interval = self.interval;
+        let adjusted = self.hour.adjusted(interval);
+        let basis = self
+            .edition
+            .basis(interval.flags, adjusted, &interval.limits);
+        let balance = self.balance(basis);
+        IntervalFigures {
+            adjusted,
+            basis,
+            balance,
+            energy: amount(balance, interval.prices.energy, interval.seconds),
+            loss: amount(balance, interval.prices.loss, interval.seconds),
+            congestion: self.edition.sign().shown(amount(
+                balance,
+                interval.prices.congestion,
+                interval.seconds,
+            )),
+            spin: self.spin(),
+        }
+    }
 }
 
 impl Sums {
     // One interval more. There is room for the 24 of an hour.
     fn add(&mut self, seconds: u16, figures: &IntervalFigures)
         requires seconds { seconds ≤ 3600 }
-        requires balance { (unsigned_abs self.old.balance ≤ 23 * 4341600000000) × (unsigned_abs figures.now.balance ≤ 1206000000) }
-        requires energy { (unsigned_abs self.old.energy ≤ 23 * 1206000000000) × (unsigned_abs figures.now.energy ≤ 1206000000000) }
-        requires loss { (unsigned_abs self.old.loss ≤ 23 * 1206000000000) × (unsigned_abs figures.now.loss ≤ 1206000000000) }
-        requires congestion { (unsigned_abs self.old.congestion ≤ 23 * 1206000000000) × (unsigned_abs figures.now.congestion ≤ 1206000000000) }
-        requires spin { (unsigned_abs self.old.spin ≤ 23 * 1206000000000) × (unsigned_abs figures.now.spin ≤ 1206000000000) }
-        ensures balance { self.new.balance ≡ self.old.balance +ℤ figures.now.balance *ℤ pos seconds }
-        ensures energy { self.new.energy ≡ self.old.energy +ℤ figures.now.energy }
-        ensures loss { self.new.loss ≡ self.old.loss +ℤ figures.now.loss }
-        ensures congestion { self.new.congestion ≡ self.old.congestion +ℤ figures.now.congestion }
-        ensures spin { self.new.spin ≡ self.old.spin +ℤ figures.now.spin }
+        requires room { SumsWithin 23 self.old }
+        requires figures { FiguresWithin figures.now }
+        ensures { self.new ≡ with_figures self.old seconds figures.now }
     {
         self.balance += figures.balance * seconds as i64;
         self.energy += figures.energy;
@@ -58,58 +89,23 @@ impl Sums {
 }
 
 impl Hour {
-    // What one of the hour's intervals comes to, by the hour's schedule row.
-    pub(super) fn settle<E: Edition>(
-        &self,
-        edition: &E,
-        region: Region,
-        row: &Schedule,
-        interval: &Interval,
-    ) -> IntervalFigures
-        requires one { Contains (intervals self.now.standing) interval.now }
-        requires row { self.now.standing.schedule ≡ Some row.now }
-        ensures value { result ≡ figures_ℤ (E.Edition.terms edition.now) region row.now self.now.standing interval.now }
-        ensures balance { unsigned_abs result.balance ≤ 1206000000 }
-        ensures energy { unsigned_abs result.energy ≤ 1206000000000 }
-        ensures loss { unsigned_abs result.loss ≤ 1206000000000 }
-        ensures congestion { unsigned_abs result.congestion ≤ 1206000000000 }
-        ensures spin { unsigned_abs result.spin ≤ 1206000000000 }
-    {
-        let adjusted = self.adjusted(interval);
-        let basis = edition.basis(interval.flags, adjusted, &interval.limits);
-        let balance = balance(basis, row, interval);
-        IntervalFigures {
-            adjusted,
-            basis,
-            balance,
-            energy: amount(balance, interval.prices.energy, interval.seconds),
-            loss: amount(balance, interval.prices.loss, interval.seconds),
-            congestion: edition.sign().shown(amount(
-                balance,
-                interval.prices.congestion,
-                interval.seconds,
-            )),
-            spin: spin(region, row, interval),
-        }
-    }
-
     // What the hour's intervals come to together, by its schedule row.
     pub(super) fn sums<E: Edition>(&self, edition: &E, region: Region, row: &Schedule) -> Sums
-        requires row { self.now.standing.schedule ≡ Some row.now }
+        requires { self.now.standing.schedule ≡ Some row.now }
         ensures value { result ≡ sums_ℤ (E.Edition.terms edition.now) region row.now self.now.standing (intervals self.now.standing) }
-        ensures balance { unsigned_abs result.balance ≤ 24 * 4341600000000 }
-        ensures energy { unsigned_abs result.energy ≤ 24 * 1206000000000 }
-        ensures loss { unsigned_abs result.loss ≤ 24 * 1206000000000 }
-        ensures congestion { unsigned_abs result.congestion ≤ 24 * 1206000000000 }
-        ensures spin { unsigned_abs result.spin ≤ 24 * 1206000000000 }
+        ensures within { SumsWithin 24 result }
     {
         let mut sums = Sums::default();
         for record in &self.standing.records {
             if let Some(interval) = record {
-                sums.add(
-                    interval.seconds,
-                    &self.settle(edition, region, row, interval),
-                );
+                let settling = Settling {
+                    hour: self,
+                    edition,
+                    region,
+                    row,
+                    interval,
+                };
+                sums.add(interval.seconds, &settling.figures());
             }
         }
         sums

@@ -1,6 +1,6 @@
 // Sharing a reading among the intervals of its hour.
-ghost use Rattle.std.specs.Prelude.{◌≡◌, ◌≤◌, unsigned_abs, Contains};
-ghost use Rattle.settlement.specs.Standing.{intervals};
+ghost use Rattle.std.specs.Prelude.{◌≡◌, ◌≤◌, unsigned_abs};
+ghost use Rattle.settlement.specs.Standing.{StandsIn};
 ghost use Rattle.settlement.specs.Formulas.{adjusted as adjusted_ℤ};
 
 use crate::figures::Interval;
@@ -11,7 +11,7 @@ impl Hour {
     // The kW that fall to one of the hour's intervals: its average, or its share of the reading by the averages, or the
     // reading itself where no interval has any output.
     pub(super) fn adjusted(&self, interval: &Interval) -> i64
-        requires one { Contains (intervals self.now.standing) interval.now }
+        requires { StandsIn self.now.standing interval.now }
         ensures value { result ≡ adjusted_ℤ self.now.standing interval.now }
         ensures bound { unsigned_abs result ≤ 1200000000 }
     {

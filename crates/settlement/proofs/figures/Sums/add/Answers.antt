@@ -15,31 +15,32 @@ added : (x y : ℤ) → nat_abs x ≤ 23 * 1206000000000 → nat_abs y ≤ 12060
 added x y g h = plus (back w64 (whole x (23 * 1206000000000) g) (lit< tt)) (back w64 (whole y 1206000000000 h) (lit< tt))
 
 pub overflow_mul-self : goal.overflow_mul-self
-overflow_mul-self c = fits w64 (energy c.args.figures.now.balance c.args.seconds c.requires.balance.1 c.requires.seconds) (lit< tt)
+overflow_mul-self c = fits w64 (energy c.args.figures.now.balance c.args.seconds c.requires.figures.balance c.requires.seconds) (lit< tt)
 
 pub overflow_add-self : goal.overflow_add-self
-overflow_add-self c = fits w64 (balances c.args.self.now.balance c.args.figures.now.balance c.args.seconds c.requires.balance.0 c.requires.balance.1 c.requires.seconds) (lit< tt)
+overflow_add-self c = fits w64 (balances c.args.self.now.balance c.args.figures.now.balance c.args.seconds c.requires.room.balance c.requires.figures.balance c.requires.seconds) (lit< tt)
 
 pub overflow_add-self-2 : goal.overflow_add-self-2
-overflow_add-self-2 c = fits w64 (added c.args.self.now.energy c.args.figures.now.energy c.requires.energy.0 c.requires.energy.1) (lit< tt)
+overflow_add-self-2 c = fits w64 (added c.args.self.now.energy c.args.figures.now.energy c.requires.room.energy c.requires.figures.energy) (lit< tt)
 
 pub overflow_add-self-3 : goal.overflow_add-self-3
-overflow_add-self-3 c = fits w64 (added c.args.self.now.loss c.args.figures.now.loss c.requires.loss.0 c.requires.loss.1) (lit< tt)
+overflow_add-self-3 c = fits w64 (added c.args.self.now.loss c.args.figures.now.loss c.requires.room.loss c.requires.figures.loss) (lit< tt)
 
 pub overflow_add-self-4 : goal.overflow_add-self-4
-overflow_add-self-4 c = fits w64 (added c.args.self.now.congestion c.args.figures.now.congestion c.requires.congestion.0 c.requires.congestion.1) (lit< tt)
+overflow_add-self-4 c = fits w64 (added c.args.self.now.congestion c.args.figures.now.congestion c.requires.room.congestion c.requires.figures.congestion) (lit< tt)
 
 pub overflow_add-self-5 : goal.overflow_add-self-5
-overflow_add-self-5 c = fits w64 (added c.args.self.now.spin c.args.figures.now.spin c.requires.spin.0 c.requires.spin.1) (lit< tt)
+overflow_add-self-5 c = fits w64 (added c.args.self.now.spin c.args.figures.now.spin c.requires.room.spin c.requires.figures.spin) (lit< tt)
 
 pub returns : goal.returns
 returns c =
     let s = c.args.self.now in
     let f = c.args.figures.now in
-    record {
-      balance = (back w64 (balances s.balance f.balance c.args.seconds c.requires.balance.0 c.requires.balance.1 c.requires.seconds) (lit< tt)).is;
-      energy = (back w64 (added s.energy f.energy c.requires.energy.0 c.requires.energy.1) (lit< tt)).is;
-      loss = (back w64 (added s.loss f.loss c.requires.loss.0 c.requires.loss.1) (lit< tt)).is;
-      congestion = (back w64 (added s.congestion f.congestion c.requires.congestion.0 c.requires.congestion.1) (lit< tt)).is;
-      spin = (back w64 (added s.spin f.spin c.requires.spin.0 c.requires.spin.1) (lit< tt)).is;
-    }
+    let room = c.requires.room in
+    let small = c.requires.figures in
+    let balance = back w64 (balances s.balance f.balance c.args.seconds room.balance small.balance c.requires.seconds) (lit< tt) in
+    let energy = back w64 (added s.energy f.energy room.energy small.energy) (lit< tt) in
+    let loss = back w64 (added s.loss f.loss room.loss small.loss) (lit< tt) in
+    let congestion = back w64 (added s.congestion f.congestion room.congestion small.congestion) (lit< tt) in
+    let spin = back w64 (added s.spin f.spin room.spin small.spin) (lit< tt) in
+    λ k. record { balance = balance.is k; energy = energy.is k; loss = loss.is k; congestion = congestion.is k; spin = spin.is k }

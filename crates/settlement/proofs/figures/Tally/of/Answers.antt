@@ -25,12 +25,10 @@ returns-in_err-check c =
 
 pub count-requires : goal.count-requires
 count-requires c =
-    let inv = c.loop-record.invariant in
+    let room = c.loop-record.invariant.room in
     record {
       fair = (ruled_ok (interval_refusal c.in-Some.interval) tt _ c.in_ok-check.ensures).0;
-      few = omega (arith, inv.few);
-      short = omega (arith, inv.short);
-      small = omega (arith, inv.small);
+      room = record { few = omega (arith, room.few); short = omega (arith, room.short); small = omega (arith, room.small) };
     }
 
 pub loop-record-preserved : goal.loop-record-preserved
@@ -42,10 +40,8 @@ loop-record-preserved c =
       | in-Some+in_ok-check w ↦
           let i = w.in-Some.interval in
           let fair = (ruled_ok (interval_refusal i) tt _ w.in_ok-check.ensures).0 in
-          let adds = w.count.ensures in
           subst (Counted xs (k + 1)) (sym w.tally-is)
-          (counted_more xs k c.loop-record.tally w.count.new.self i l w.in-Some.is fair c.loop-record.invariant
-          (record { intervals = adds.intervals; seconds = adds.seconds; volume = adds.volume }))
+          (counted_more xs k c.loop-record.tally w.count.new.self i l w.in-Some.is fair c.loop-record.invariant w.count.ensures)
       | in_default w ↦ counted_empty xs k _ l w.in_default.is (subst (Counted xs k) (sym w.tally-is) c.loop-record.invariant)
     ]
 

@@ -56,13 +56,13 @@ overflow_mul-average-in-Some-new c =
     let i = c.args.interval.now in
     let w = within h c.args.self.now.within in
     let m = reading_metered h c.in-Some.kwh w c.in-Some.is in
-    fits w64 (product i.average c.in-Some.kwh (sound_one h i w c.requires.one).average.size m.size) (lit< tt)
+    fits w64 (product i.average c.in-Some.kwh (sound_one h i w c.requires).average.size m.size) (lit< tt)
 
 pub returns-in-None : goal.returns-in-None
 returns-in-None c =
     let h = c.args.self.now.standing in
     let i = c.args.interval.now in
-    let s = sound_one h i (within h c.args.self.now.within) c.requires.one in
+    let s = sound_one h i (within h c.args.self.now.within) c.requires in
     let a = figure i.average s.average.size in
     record { value = a.is ∙ by_average h i c.in-None.is; bound = sized (wider a (lit≤ tt)) }
 
@@ -73,7 +73,7 @@ returns-in-Some-new c =
     let m = c.in-Some.kwh in
     let d = c.in-Some-new.volume in
     let w = within h c.args.self.now.within in
-    let s = sound_one h i w c.requires.one in
+    let s = sound_one h i w c.requires in
     let p = reading_metered h m w c.in-Some.is in
     let f : SFits w64 c.args.self.now.counted.volume = search rules in
     let g : d.value ≡ nat_abs (volume h) =
@@ -81,7 +81,7 @@ returns-in-Some-new c =
     ∙ ap (λ (t : Tally). nat_abs t.volume) c.args.self.now.tallied in
     let some = some_output (volume h) (volume_positive h w) (omega (arith, g, d.above_zero)) in
     let n = back w64 (product i.average m s.average.size p.size) (lit< tt) in
-    let small = share_bounded i.average m d.value d.above_zero p.size (omega (arith, g, volume_part h i w c.requires.one)) in
+    let small = share_bounded i.average m d.value d.above_zero p.size (omega (arith, g, volume_part h i w c.requires)) in
     let r = back w64 (holds (c.nearest.ensures.value ∙ ap (λ z. nearest z d.value) n.is) small) (lit< tt) in
     record { value = r.is ∙ by_reading h i m true d.value c.in-Some.is some g; bound = sized r }
 

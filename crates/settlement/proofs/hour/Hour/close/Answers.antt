@@ -8,7 +8,7 @@ use Rattle.settlement.specs.declared.figures.Sums.{Sums}
 use Rattle.settlement.specs.declared.figures.Tally.{Tally}
 use Rattle.settlement.specs.declared.editions.Sign.{Sign}
 use Rattle.settlement.specs.Standing.{intervals, seconds}
-use Rattle.settlement.specs.Bounds.{is_small_line, is_short_line}
+use Rattle.settlement.specs.Bounds.{SumsWithin, is_small_line, is_short_line}
 use Rattle.settlement.specs.Formulas.{state, settled_by, ahead, amounts, line_of}
 use Rattle.settlement.proofs.Ranges.{sold}
 use Rattle.settlement.proofs.Sizing.{Sized, amounts_sized, ahead_sized, small, small_amounts}
@@ -19,15 +19,8 @@ use Rattle.settlement.proofs.hour.Hour.close.Goals.{in-Some, in-None}
 figure : (z : ℤ) → nat_abs z ≤ 24 * 1206000000000 → Holds (to_z w64 (of_z w64 z)) z (24 * 1206000000000)
 figure z h = back w64 (whole z (24 * 1206000000000) h) (lit< tt)
 
--- Sums of an hour's 24 amounts are small.
-record Few (s : Sums) : Type 0 where
-  energy : nat_abs s.energy ≤ 24 * 1206000000000
-  loss : nat_abs s.loss ≤ 24 * 1206000000000
-  congestion : nat_abs s.congestion ≤ 24 * 1206000000000
-  spin : nat_abs s.spin ≤ 24 * 1206000000000
-
 -- What was sold the day before, what is balanced, and the total, as the code holds them.
-module _ (h : Standing) (s : Sums) (sign : Sign) (w : Within h) (few : Few s) (a b : Amounts) (ea : a ≡ ahead h.schedule)
+module _ (h : Standing) (s : Sums) (sign : Sign) (w : Within h) (few : SumsWithin 24 s) (a b : Amounts) (ea : a ≡ ahead h.schedule)
     (eb : b ≡ amounts sign (to_z w64 (of_z w64 s.energy)) (to_z w64 (of_z w64 s.loss)) (to_z w64 (of_z w64 s.congestion))) where
   before : Sized (ahead h.schedule) 4000000000
   before = ahead_sized h.schedule (λ g q. sold g (row_fair h g w q))
@@ -45,11 +38,11 @@ module _ (h : Standing) (s : Sums) (sign : Sign) (w : Within h) (few : Few s) (a
       ((ahead h.schedule).total +ℤ (amounts sign s.energy s.loss s.congestion).total +ℤ s.spin) (3 * 4000000000 + 4 * (24 * 1206000000000))
   all = plus (back w64 both (lit< tt)) (figure s.spin few.spin)
 
-  line_small : nat_abs s.balance ≤ 24 * 4341600000000 → is_small_line (line_of sign h s) ≡ true
-  line_small l =
+  line_small : is_small_line (line_of sign h s) ≡ true
+  line_small =
       let e = small_amounts (ahead h.schedule) 4000000000 before (lit≤ tt) in
       let g = small_amounts (amounts sign s.energy s.loss s.congestion) (24 * 1206000000000) balanced (lit≤ tt) in
-      and_from _ _ (and_from _ _ (and_from _ _ (and_from _ _ e (small s.balance (omega arith))) g) (small s.spin (omega (arith, few.spin)))) (small (line_of sign h s).total (omega (arith, all.size)))
+      and_from _ _ (and_from _ _ (and_from _ _ (and_from _ _ e (small s.balance (omega (arith, few.balance)))) g) (small s.spin (omega (arith, few.spin)))) (small (line_of sign h s).total (omega (arith, all.size)))
 
 -- No more intervals than slots, in no more seconds than an hour has.
 line_short : (h : Standing) (s : Sums) (sign : Sign) → Within h → length h.records ≡ 24 → is_short_line (line_of sign h s) ≡ true
@@ -60,21 +53,19 @@ pub new-balancing-requires : goal.new-balancing-requires
 new-balancing-requires c =
     let s = c.args.sums.now in
     record {
-      energy = sized (wider (figure s.energy c.requires.energy) (lit≤ tt));
-      loss = sized (wider (figure s.loss c.requires.loss) (lit≤ tt));
-      congestion = sized (wider (figure s.congestion c.requires.congestion) (lit≤ tt));
+      energy = sized (wider (figure s.energy c.requires.within.energy) (lit≤ tt));
+      loss = sized (wider (figure s.loss c.requires.within.loss) (lit≤ tt));
+      congestion = sized (wider (figure s.congestion c.requires.within.congestion) (lit≤ tt));
     }
 
 pub overflow_add-result : goal.overflow_add-result
 overflow_add-result c =
-    let p = c.requires in
-    fits w64 (both c.args.self.now.standing c.args.sums.now c.args.sign (within _ c.args.self.now.within) (record { energy = p.energy; loss = p.loss; congestion = p.congestion; spin = p.spin })
+    fits w64 (both c.args.self.now.standing c.args.sums.now c.args.sign (within _ c.args.self.now.within) c.requires.within
     c.ahead-ahead.result c.new-balancing.result c.ahead-ahead.ensures c.new-balancing.ensures) (lit< tt)
 
 pub overflow_add-result-2 : goal.overflow_add-result-2
 overflow_add-result-2 c =
-    let p = c.requires in
-    fits w64 (all c.args.self.now.standing c.args.sums.now c.args.sign (within _ c.args.self.now.within) (record { energy = p.energy; loss = p.loss; congestion = p.congestion; spin = p.spin })
+    fits w64 (all c.args.self.now.standing c.args.sums.now c.args.sign (within _ c.args.self.now.within) c.requires.within
     c.ahead-ahead.result c.new-balancing.result c.ahead-ahead.ensures c.new-balancing.ensures) (lit< tt)
 
 pub overflow_cast-result : goal.overflow_cast-result
@@ -86,12 +77,11 @@ overflow_cast-result c =
 
 pub returns : goal.returns
 returns c =
-    let p = c.requires in
+    let few = c.requires.within in
     let hour = c.args.self.now in
     let h = hour.standing in
     let s = c.args.sums.now in
     let w = within h hour.within in
-    let few : Few s = record { energy = p.energy; loss = p.loss; congestion = p.congestion; spin = p.spin } in
     let a = c.ahead-ahead.ensures in
     let b = balanced_is h s c.args.sign w few c.ahead-ahead.result c.new-balancing.result a c.new-balancing.ensures in
     let t = back w64 (all h s c.args.sign w few c.ahead-ahead.result c.new-balancing.result a c.new-balancing.ensures) (lit< tt) in
@@ -100,13 +90,13 @@ returns c =
       | in-Some v ↦ v.state-is ∙ ap state v.in-Some.ensures
       | in-None v ↦ v.state-is ∙ ap state v.in-None.ensures
     ] in
-    let due = back w64 (whole s.balance (24 * 4341600000000) p.balance) (lit< tt) in
-    let reserve = figure s.spin p.spin in
+    let due = back w64 (whole s.balance (24 * 4341600000000) few.balance) (lit< tt) in
+    let reserve = figure s.spin few.spin in
     let counted = hour.tallied in
     let v : _ ≡ line_of c.args.sign h s =
     λ k. record { state = settled k; intervals = (counted k).intervals; seconds = (counted k).seconds; ahead = a k; balance = due.is k; balancing = b k; spin = reserve.is k; total = t.is k } in
     record {
       value = v;
-      small = ap is_small_line v ∙ line_small h s c.args.sign w few c.ahead-ahead.result c.new-balancing.result a c.new-balancing.ensures p.balance;
+      small = ap is_small_line v ∙ line_small h s c.args.sign w few c.ahead-ahead.result c.new-balancing.result a c.new-balancing.ensures;
       short = ap is_short_line v ∙ line_short h s c.args.sign w hour.slots;
     }

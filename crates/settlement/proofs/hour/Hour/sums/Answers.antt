@@ -1,7 +1,7 @@
 use Rattle.std.proofs.Common.{◌≡◌, ◌+◌, ◌<◌, length, sym, subst, arith}
 use Rattle.arithmetic.proofs.Sums.{standing_has}
 use Rattle.settlement.specs.Formulas.{no_sums}
-use Rattle.settlement.proofs.Summing.{Summed, summed_none, summed_empty, summed_more, summed_all}
+use Rattle.settlement.proofs.Summing.{Summed, summed_none, summed_empty, summed_more, summed_all, summed_within}
 use Rattle.settlement.proofs.Within.{within, sound_one}
 use Rattle.settlement.proofs.hour.Hour.sums.Goals as goal
 use Rattle.settlement.proofs.hour.Hour.sums.Goals.{in-Some, in_default}
@@ -12,25 +12,16 @@ loop-record-init g c =
     let zero : c.default-sums.result ≡ no_sums = λ k. record { balance = z.0 k; energy = z.1.0 k; loss = z.1.1.0 k; congestion = z.1.1.1.0 k; spin = z.1.1.1.1 k } in
     summed_none (g.E.Edition.terms c.args.edition.now) c.args.region c.args.row.now c.args.self.now.standing _ zero
 
-pub settle-requires : goal.settle-requires
-settle-requires g c =
-    record { one = standing_has c.args.self.now.standing.records c.loop-record.record-index c.in-Some.interval (omega arith) c.in-Some.is; row = c.requires.row }
+pub invariant_of-settling : goal.invariant_of-settling
+invariant_of-settling g c =
+    record { sold = c.requires; stands = ∣ standing_has c.args.self.now.standing.records c.loop-record.record-index c.in-Some.interval (omega arith) c.in-Some.is ∣₁ }
 
 pub add-requires : goal.add-requires
 add-requires g c =
     let h = c.args.self.now.standing in
     let one = standing_has h.records c.loop-record.record-index c.in-Some.interval (omega arith) c.in-Some.is in
-    let s = sound_one h c.in-Some.interval (within h c.args.self.now.within) one in
-    let inv = c.loop-record.invariant in
-    let f = c.settle.ensures in
-    record {
-      seconds = s.most;
-      balance = (omega (arith, inv.balance.size), f.balance);
-      energy = (omega (arith, inv.energy.size), f.energy);
-      loss = (omega (arith, inv.loss.size), f.loss);
-      congestion = (omega (arith, inv.congestion.size), f.congestion);
-      spin = (omega (arith, inv.spin.size), f.spin);
-    }
+    let s = sound_one h c.in-Some.interval (within h c.args.self.now.within) ∣ one ∣₁ in
+    record { seconds = s.most; room = summed_within _ _ _ h _ 23 _ (omega arith) c.loop-record.invariant; figures = c.figures.ensures.within }
 
 pub loop-record-preserved : goal.loop-record-preserved
 loop-record-preserved g c =
@@ -42,14 +33,10 @@ loop-record-preserved g c =
     elim c.match-record.branch [
       | in-Some w ↦
           let i = w.in-Some.interval in
-          let f = w.settle.ensures in
-          let a = w.add.ensures in
           let one = standing_has h.records k i l w.in-Some.is in
-          let s = sound_one h i (within h c.args.self.now.within) one in
+          let s = sound_one h i (within h c.args.self.now.within) ∣ one ∣₁ in
           subst (Summed e c.args.region row h (k + 1)) (sym w.sums-is)
-          (summed_more e c.args.region row h k c.loop-record.sums w.add.new.self i w.settle.result c.loop-record.invariant l w.in-Some.is s.most f.value
-          (record { balance = f.balance; energy = f.energy; loss = f.loss; congestion = f.congestion; spin = f.spin })
-          (record { balance = a.balance; energy = a.energy; loss = a.loss; congestion = a.congestion; spin = a.spin }))
+          (summed_more e c.args.region row h k c.loop-record.sums w.add.new.self i w.figures.result c.loop-record.invariant l w.in-Some.is s.most w.figures.ensures.value w.figures.ensures.within w.add.ensures)
       | in_default w ↦ summed_empty e c.args.region row h k _ (subst (Summed e c.args.region row h k) (sym w.sums-is) c.loop-record.invariant) l w.in_default.is
     ]
 
@@ -58,9 +45,5 @@ returns g c =
     let inv = c.loop-record.invariant in
     record {
       value = summed_all _ _ _ c.args.self.now.standing c.loop-record.record-index _ (omega arith) inv;
-      balance = omega (arith, inv.balance.size);
-      energy = omega (arith, inv.energy.size);
-      loss = omega (arith, inv.loss.size);
-      congestion = omega (arith, inv.congestion.size);
-      spin = omega (arith, inv.spin.size);
+      within = summed_within _ _ _ c.args.self.now.standing _ 24 _ (omega arith) inv;
     }

@@ -18,19 +18,18 @@ discount-requires c =
     let small = tally_small h.records hour.counted hour.slots w.fair hour.tallied in
     let part = seconds_part h i one in
     record {
-      fair = fair_one h i w one;
+      fair = fair_one h i w ∣ one ∣₁;
       few = omega (arith, ap (λ (t : Tally). t.intervals) hour.tallied, one.1);
       short = omega (arith, ap (λ (t : Tally). t.seconds) hour.tallied, part);
-      small = small.small;
+      room = small;
     }
 
 pub returns-in-Some : goal.returns-in-Some
 returns-in-Some c =
     let hour = c.args.self.now in
     let l : c.args.slot < length hour.standing.records = omega (arith, hour.slots, c.requires) in
-    let a = c.discount.ensures in
     slot_cleared hour.standing.records c.args.slot l c.in-Some.interval hour.counted c.discount.new.self c.in-Some.is hour.tallied
-    (record { intervals = a.intervals; seconds = a.seconds; volume = a.volume })
+    c.discount.ensures
 
 pub returns-in_default : goal.returns-in_default
 returns-in_default c =

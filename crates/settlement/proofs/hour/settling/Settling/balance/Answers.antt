@@ -2,9 +2,10 @@ use Rattle.std.proofs.Common.{◌≤◌, ℤ, ◌-ℤ◌, nat_abs, lit<, w64, to
 use Rattle.arithmetic.proofs.Machine.{Holds, whole, fits, back, minus, sized}
 use Rattle.settlement.specs.declared.figures.Interval.{Interval}
 use Rattle.settlement.specs.declared.figures.Schedule.{Schedule}
-use Rattle.settlement.proofs.Ranges.{Sound, sound, Sold, sold}
+use Rattle.settlement.proofs.Ranges.{Sound, Sold}
+use Rattle.settlement.proofs.Within.{settles}
 use Rattle.settlement.proofs.Terms.{wide, power_held}
-use Rattle.settlement.proofs.hour.settling.balance.Goals as goal
+use Rattle.settlement.proofs.hour.settling.Settling.balance.Goals as goal
 
 -- The balance, step by step.
 module _ (basis : ℤ) (row : Schedule) (i : Interval) (b : nat_abs basis ≤ 1200000000) (g : Sold row) (s : Sound i) where
@@ -19,12 +20,20 @@ module _ (basis : ℤ) (row : Schedule) (i : Interval) (b : nat_abs basis ≤ 12
   due = minus (back w64 beyond (lit< tt)) (back w64 change (lit< tt))
 
 pub overflow_sub-result : goal.overflow_sub-result
-overflow_sub-result c = fits w64 (beyond c.args.basis c.args.row.now c.args.interval.now c.requires.basis (sold _ c.requires.row) (sound _ c.requires.interval)) (lit< tt)
+overflow_sub-result _ c =
+    let s = c.args.self.now in
+    let t = settles s.hour.now.standing s.row.now s.interval.now s.hour.now.within s.sold s.stands in
+    fits w64 (beyond c.args.basis s.row.now s.interval.now c.requires t.row t.interval) (lit< tt)
 
 pub overflow_sub-result-3 : goal.overflow_sub-result-3
-overflow_sub-result-3 c = fits w64 (due c.args.basis c.args.row.now c.args.interval.now c.requires.basis (sold _ c.requires.row) (sound _ c.requires.interval)) (lit< tt)
+overflow_sub-result-3 _ c =
+    let s = c.args.self.now in
+    let t = settles s.hour.now.standing s.row.now s.interval.now s.hour.now.within s.sold s.stands in
+    fits w64 (due c.args.basis s.row.now s.interval.now c.requires t.row t.interval) (lit< tt)
 
 pub returns : goal.returns
-returns c =
-    let r = back w64 (due c.args.basis c.args.row.now c.args.interval.now c.requires.basis (sold _ c.requires.row) (sound _ c.requires.interval)) (lit< tt) in
+returns _ c =
+    let s = c.args.self.now in
+    let t = settles s.hour.now.standing s.row.now s.interval.now s.hour.now.within s.sold s.stands in
+    let r = back w64 (due c.args.basis s.row.now s.interval.now c.requires t.row t.interval) (lit< tt) in
     record { value = r.is; bound = sized r }

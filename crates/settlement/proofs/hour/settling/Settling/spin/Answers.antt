@@ -5,9 +5,10 @@ use Rattle.settlement.specs.declared.figures.Region.{Region}
 use Rattle.settlement.specs.declared.figures.Region.TheVariants.{East, West}
 use Rattle.settlement.specs.declared.figures.Schedule.{Schedule}
 use Rattle.settlement.specs.Formulas.{amount, spin_price}
-use Rattle.settlement.proofs.Ranges.{Sound, sound, Sold, sold}
+use Rattle.settlement.proofs.Ranges.{Sound, Sold}
+use Rattle.settlement.proofs.Within.{settles}
 use Rattle.settlement.proofs.Terms.{wide, power_held}
-use Rattle.settlement.proofs.hour.settling.spin.Goals as goal
+use Rattle.settlement.proofs.hour.settling.Settling.spin.Goals as goal
 
 beyond : (row : Schedule) (i : Interval) → Sold row → Sound i → Holds (to_z w64 (of_z w64 (wide i.spin -ℤ wide row.spin))) (i.spin -ℤ row.spin) 1206000000
 beyond row i g s = wider (back w64 (minus (power_held i.spin s.spin.size) (power_held row.spin g.spin.size)) (lit< tt)) (lit≤ tt)
@@ -20,18 +21,18 @@ reserve_held : (r : Region) (i : Interval) (p : ℤ) → Sound i → p ≡ spin_
 reserve_held r i p s e = back w32 (holds e (reserve_price r i s)) (lit< tt)
 
 pub amount-requires : goal.amount-requires
-amount-requires c =
-    let row = c.args.row.now in
-    let i = c.args.interval.now in
-    let s = sound i c.requires.interval in
-    record { kw = sized (beyond row i (sold row c.requires.row) s); price = sized (reserve_held c.args.region i _ s c.of.ensures); seconds = s.most }
+amount-requires _ c =
+    let s = c.args.self.now in
+    let i = s.interval.now in
+    let t = settles s.hour.now.standing s.row.now i s.hour.now.within s.sold s.stands in
+    record { kw = sized (beyond s.row.now i t.row t.interval); price = sized (reserve_held s.region i _ t.interval c.of.ensures); seconds = t.interval.most }
 
 pub returns : goal.returns
-returns c =
-    let row = c.args.row.now in
-    let i = c.args.interval.now in
-    let s = sound i c.requires.interval in
-    let kw = beyond row i (sold row c.requires.row) s in
-    let p = reserve_held c.args.region i _ s c.of.ensures in
+returns _ c =
+    let s = c.args.self.now in
+    let i = s.interval.now in
+    let t = settles s.hour.now.standing s.row.now i s.hour.now.within s.sold s.stands in
+    let kw = beyond s.row.now i t.row t.interval in
+    let p = reserve_held s.region i _ t.interval c.of.ensures in
     let r = back w64 (whole c.amount.result 1206000000000 c.amount.ensures.bound) (lit< tt) in
     record { value = r.is ∙ c.amount.ensures.value ∙ (λ k. amount (kw.is k) (p.is k) i.seconds); bound = sized r }

@@ -7,8 +7,8 @@ use Rattle.settlement.specs.Formulas.{amount, shown}
 use Rattle.settlement.proofs.Ranges.{Limiting}
 use Rattle.settlement.proofs.Signs.{shown_size}
 use Rattle.settlement.proofs.Terms.{price_held}
-use Rattle.settlement.proofs.Within.{within, row_fair, fair_one, sound_one}
-use Rattle.settlement.proofs.hour.Hour.settle.Goals as goal
+use Rattle.settlement.proofs.Within.{within, sound_one, settles}
+use Rattle.settlement.proofs.hour.settling.Settling.figures.Goals as goal
 
 -- A basis of an adjusted energy within its bound is within it too.
 basis_held : (e : Terms) → Lawful e → (f : ℕ) (a b z : ℤ) (l : Limits) → Limiting l → a ≡ z → nat_abs a ≤ 1200000000 → b ≡ e.rule f (to_z w64 (of_z w64 a)) l
@@ -36,60 +36,52 @@ amount_held b z p s r h k e l =
     let v : r ≡ amount z p s = e ∙ (λ n. amount (h.is n) ((price_held p k).is n) s) in
     back w64 (holds v (omega (arith, ap nat_abs v))) (lit< tt)
 
+pub adjusted-adjusted-requires : goal.adjusted-adjusted-requires
+adjusted-adjusted-requires g c = c.args.self.now.stands
+
 pub balance-balance-requires : goal.balance-balance-requires
 balance-balance-requires g c =
-    let h = c.args.self.now.standing in
-    let i = c.args.interval.now in
-    let w = within h c.args.self.now.within in
-    let e = c.args.edition.now in
-    record {
-      basis = sized (basis_held (g.E.Edition.terms e) (g.met.E.Edition.lawful e) i.flags _ _ _ i.limits (sound_one h i w c.requires.one).limits c.adjusted-adjusted.ensures.value c.adjusted-adjusted.ensures.bound c.basis-basis.ensures);
-      row = row_fair h c.args.row.now w c.requires.row;
-      interval = fair_one h i w c.requires.one;
-    }
+    let s = c.args.self.now in
+    let i = s.interval.now in
+    let t = settles s.hour.now.standing s.row.now i s.hour.now.within s.sold s.stands in
+    let e = s.edition.now in
+    sized (basis_held (g.E.Edition.terms e) (g.met.E.Edition.lawful e) i.flags _ _ _ i.limits t.interval.limits c.adjusted-adjusted.ensures.value c.adjusted-adjusted.ensures.bound c.basis-basis.ensures)
 
 pub amount-requires : goal.amount-requires
 amount-requires g c =
-    let s = sound_one c.args.self.now.standing c.args.interval.now (within _ c.args.self.now.within) c.requires.one in
-    record { kw = sized (due_held c.balance-balance.result c.balance-balance.ensures.bound); price = sized (price_held c.args.interval.now.prices.energy s.prices.energy); seconds = s.most }
+    let s = c.args.self.now in
+    let i = sound_one s.hour.now.standing s.interval.now (within _ s.hour.now.within) s.stands in
+    record { kw = sized (due_held c.balance-balance.result c.balance-balance.ensures.bound); price = sized (price_held s.interval.now.prices.energy i.prices.energy); seconds = i.most }
 
 pub amount-requires-2 : goal.amount-requires-2
 amount-requires-2 g c =
-    let s = sound_one c.args.self.now.standing c.args.interval.now (within _ c.args.self.now.within) c.requires.one in
-    record { kw = sized (due_held c.balance-balance.result c.balance-balance.ensures.bound); price = sized (price_held c.args.interval.now.prices.loss s.prices.loss); seconds = s.most }
+    let s = c.args.self.now in
+    let i = sound_one s.hour.now.standing s.interval.now (within _ s.hour.now.within) s.stands in
+    record { kw = sized (due_held c.balance-balance.result c.balance-balance.ensures.bound); price = sized (price_held s.interval.now.prices.loss i.prices.loss); seconds = i.most }
 
 pub amount-requires-3 : goal.amount-requires-3
 amount-requires-3 g c =
-    let s = sound_one c.args.self.now.standing c.args.interval.now (within _ c.args.self.now.within) c.requires.one in
-    record { kw = sized (due_held c.balance-balance.result c.balance-balance.ensures.bound); price = sized (price_held c.args.interval.now.prices.congestion s.prices.congestion); seconds = s.most }
-
-pub spin-requires : goal.spin-requires
-spin-requires g c =
-    let h = c.args.self.now.standing in
-    let w = within h c.args.self.now.within in
-    record { row = row_fair h c.args.row.now w c.requires.row; interval = fair_one h c.args.interval.now w c.requires.one }
+    let s = c.args.self.now in
+    let i = sound_one s.hour.now.standing s.interval.now (within _ s.hour.now.within) s.stands in
+    record { kw = sized (due_held c.balance-balance.result c.balance-balance.ensures.bound); price = sized (price_held s.interval.now.prices.congestion i.prices.congestion); seconds = i.most }
 
 pub returns : goal.returns
 returns g c =
-    let h = c.args.self.now.standing in
-    let i = c.args.interval.now in
-    let row = c.args.row.now in
-    let e = c.args.edition.now in
+    let s = c.args.self.now in
+    let i = s.interval.now in
+    let row = s.row.now in
+    let e = s.edition.now in
     let t = g.E.Edition.terms e in
-    let s = sound_one h i (within h c.args.self.now.within) c.requires.one in
+    let sound = sound_one s.hour.now.standing i (within _ s.hour.now.within) s.stands in
     let a = back w64 (held c.adjusted-adjusted.ensures.value c.adjusted-adjusted.ensures.bound) (lit< tt) in
-    let b = basis_held t (g.met.E.Edition.lawful e) i.flags _ _ _ i.limits s.limits c.adjusted-adjusted.ensures.value c.adjusted-adjusted.ensures.bound c.basis-basis.ensures in
+    let b = basis_held t (g.met.E.Edition.lawful e) i.flags _ _ _ i.limits sound.limits c.adjusted-adjusted.ensures.value c.adjusted-adjusted.ensures.bound c.basis-basis.ensures in
     let due = back w64 (held (c.balance-balance.ensures.value ∙ ap (λ z. z -ℤ row.generation -ℤ (i.transactions -ℤ row.transactions)) b.is) c.balance-balance.ensures.bound) (lit< tt) in
-    let energy = amount_held c.balance-balance.result _ _ _ _ due s.prices.energy c.amount.ensures.value c.amount.ensures.bound in
-    let loss = amount_held c.balance-balance.result _ _ _ _ due s.prices.loss c.amount-2.ensures.value c.amount-2.ensures.bound in
-    let raw = amount_held c.balance-balance.result _ _ _ _ due s.prices.congestion c.amount-3.ensures.value c.amount-3.ensures.bound in
+    let energy = amount_held c.balance-balance.result _ _ _ _ due sound.prices.energy c.amount.ensures.value c.amount.ensures.bound in
+    let loss = amount_held c.balance-balance.result _ _ _ _ due sound.prices.loss c.amount-2.ensures.value c.amount-2.ensures.bound in
+    let raw = amount_held c.balance-balance.result _ _ _ _ due sound.prices.congestion c.amount-3.ensures.value c.amount-3.ensures.bound in
     let congestion = shown_held _ _ _ _ _ c.sign.ensures raw c.shown.ensures in
     let spin = back w64 (held c.spin.ensures.value c.spin.ensures.bound) (lit< tt) in
     record {
       value = λ k. record { adjusted = a.is k; basis = b.is k; balance = due.is k; energy = energy.is k; loss = loss.is k; congestion = congestion.is k; spin = spin.is k };
-      balance = sized due;
-      energy = sized energy;
-      loss = sized loss;
-      congestion = sized congestion;
-      spin = sized spin;
+      within = record { balance = sized due; energy = sized energy; loss = sized loss; congestion = sized congestion; spin = sized spin };
     }
