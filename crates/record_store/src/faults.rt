@@ -4,7 +4,7 @@ ghost use Rattle.record_store.specs.Faults.{figures};
 
 // The first thing that is wrong with a call. Hour and slot are those that the call named, also where they are what is
 // refused.
-#[derive(Clone, Copy, Debug, PartialEq, Eq)]
+#[derive(Clone, Copy, PartialEq, Eq, Debug)]
 pub enum StoreFault {
     // The memory has fewer or more places than a store may have.
     Places,

@@ -11,7 +11,7 @@ const LEAST_PLACES: usize = 24;
 const MOST_PLACES: usize = 4_096;
 
 // A place for what is kept of a slot.
-#[derive(Clone, Copy, Debug, PartialEq, Eq)]
+#[derive(Clone, Copy, Default, PartialEq, Eq, Debug)]
 pub struct Place<T> {
     pub hour: u8,
     pub slot: u8,

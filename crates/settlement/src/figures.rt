@@ -3,7 +3,7 @@
 ghost use Rattle.settlement.specs.Regions.{NamesRegion};
 
 // The parts of a price.
-#[derive(Clone, Copy, PartialEq, Eq, Debug)]
+#[derive(Clone, Copy, Default, PartialEq, Eq, Debug)]
 pub struct Prices {
     pub energy: i32,
     pub loss: i32,
@@ -11,7 +11,7 @@ pub struct Prices {
 }
 
 // The price of spinning reserve, by region.
-#[derive(Clone, Copy, PartialEq, Eq, Debug)]
+#[derive(Clone, Copy, Default, PartialEq, Eq, Debug)]
 pub struct SpinPrices {
     pub east: i32,
     pub west: i32,
@@ -42,7 +42,7 @@ impl TryFrom<u8> for Region {
 }
 
 // What an interval's output may be limited to: the two basepoints and the energy limit.
-#[derive(Clone, Copy, PartialEq, Eq, Debug)]
+#[derive(Clone, Copy, Default, PartialEq, Eq, Debug)]
 pub struct Limits {
     pub rtd: i32,
     pub agc: i32,
@@ -51,7 +51,7 @@ pub struct Limits {
 
 // The record of one interval: its length, the flags under which it ran, its average output, the limits on it, and what
 // was contracted, held in reserve and paid in real time.
-#[derive(Clone, Copy, PartialEq, Eq, Debug)]
+#[derive(Clone, Copy, Default, PartialEq, Eq, Debug)]
 pub struct Interval {
     pub seconds: u16,
     pub flags: u8,
@@ -64,7 +64,7 @@ pub struct Interval {
 }
 
 // What was sold for an hour the day before.
-#[derive(Clone, Copy, PartialEq, Eq, Debug)]
+#[derive(Clone, Copy, Default, PartialEq, Eq, Debug)]
 pub struct Schedule {
     pub generation: i32,
     pub transactions: i32,
