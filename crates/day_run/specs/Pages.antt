@@ -1,5 +1,5 @@
 -- What is printed for a day file.
-use Rattle.std.specs.Prelude.{◌≡◌, ℕ, zero, suc, ◌+◌, Bool, true, false, ◌⊎◌, List, [], ◌∷◌, ◌++◌, map, Some, None, Ok, Err, Result}
+use Rattle.std.specs.Prelude.{◌≡◌, ℕ, zero, suc, ◌+◌, ◌⊎◌, List, [], ◌∷◌, ◌++◌, map, Some, None, Ok, Err, Result}
 use Rattle.settlement.specs.Editions.{Terms, newer, older}
 use Rattle.record_store.specs.Meaning.{Meaning, fresh}
 use Rattle.book.specs.declared.calls.Answer.{Answer}
@@ -20,7 +20,7 @@ use Rattle.day_file.specs.declared.faults.FileFault.TheVariants.{InStatement}
 use Rattle.day_file.specs.Reading.{FileOf}
 use Rattle.day_file.specs.Refusals.{opening_fault, file_fault}
 use Rattle.listing.specs.Listing.{listing}
-use Rattle.listing.specs.Refusals.{file_line, refused_line}
+use Rattle.listing.specs.Refusals.{refused_line}
 
 -- The terms of an edition by its number in a file's header: 0 the older, 1 the newer.
 abbrev pub terms_of : ℕ → Terms
@@ -102,15 +102,3 @@ FirstPage capacity charge bytes page = (after : Meaning) × PageOf (fresh capaci
 abbrev pub NoFirstPage : List ℕ → ReadError → Type 0
 NoFirstPage bytes (Refused fault) = file_fault bytes ≡ Some fault
 NoFirstPage bytes NoMemory = Unit {0}
-
--- What becomes of a page, or of the reason why there is none: a page is printed as it is, and of a file that is refused
--- its line. The flag tells whether the file is accepted.
-abbrev pub Shows : {V : Type 0} → (V → List ℕ) → Result V ReadError → List ℕ → Bool → Type 0
-Shows items (Ok page) text accepted = (text ≡ items page) × (accepted ≡ true)
-Shows items (Err (Refused fault)) text accepted = (text ≡ file_line fault) × (accepted ≡ false)
-Shows items (Err NoMemory) text accepted = ⊥
-
--- What is printed for a file over a new store: its page, or the line of the file's first fault.
-abbrev pub Printed : ℕ → ℕ → List ℕ → List ℕ → Bool → Type 0
-Printed capacity charge bytes text true = FirstPage capacity charge bytes text
-Printed capacity charge bytes text false = (fault : FileFault) × (file_fault bytes ≡ Some fault) × (text ≡ file_line fault)

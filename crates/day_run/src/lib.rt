@@ -4,6 +4,8 @@
 mod days;
 mod entries;
 mod pages;
+mod printout;
 
-pub use days::{Printout, journal_day, pool_day};
+pub use days::{journal_day, pool_day};
 pub use pages::day_page;
+pub use printout::Printout;

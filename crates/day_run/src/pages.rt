@@ -16,7 +16,7 @@ use std::alloc::{AllocError, Global};
 
 // Writes the listing of a statement at the end of the page.
 fn list_onto(heap: Global, statement: &Locked, page: &mut Vec<u8>) -> Result<(), AllocError>
-    ensures { OnOk result (page.new.items ≡ page.old.items ++ listing statement.now.table) }
+    ensures { OnOk result (page.new.items ≡ page.old.items ++ listing statement.now.sheet.table) }
 {
     let mut text = Vec::from_elem(heap, 0u8, listing_length(statement))?;
     let _ = list(statement, text.as_mut_slice());

@@ -20,15 +20,10 @@ pub fn input(rt: &HostRuntime) -> io::Result<Vec<u8>> {
 
 // Prints what there is to print. A file that is refused, and want of memory, end the program with an error.
 pub fn output(rt: &HostRuntime, printout: Result<Printout, AllocError>) -> anyhow::Result<()> {
+    let printout = printout.map_err(|_| anyhow!("there is not enough memory"))?;
+    rt.stdout().write_all(printout.as_bytes())?;
     match printout {
-        Ok(Printout { text, accepted }) => {
-            rt.stdout().write_all(text.as_slice())?;
-            if accepted {
-                Ok(())
-            } else {
-                Err(anyhow!("the file is refused"))
-            }
-        }
-        Err(_) => Err(anyhow!("there is not enough memory")),
+        Printout::Page(_) => Ok(()),
+        Printout::Refused(_) => Err(anyhow!("the file is refused")),
     }
 }
