@@ -9,3 +9,4 @@ pub mod Changing
 pub mod Summing
 pub mod Sizing
 pub mod Nearness
+pub mod Walking

@@ -41,11 +41,9 @@ impl Tally {
         ensures slots { length records.now ≡ 24 }
     {
         let mut tally = Tally::default();
-        for record in records {
-            if let Some(interval) = record {
-                interval.check()?;
-                tally.count(interval);
-            }
+        for interval in records.iter().flatten() {
+            interval.check()?;
+            tally.count(interval);
         }
         Ok(tally)
     }

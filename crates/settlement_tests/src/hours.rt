@@ -1,5 +1,6 @@
+use crate::refusals::number;
 use settlement::{
-    Hour, Interval, Limits, Newer, Prices, Refusal, Region, Schedule, SpinPrices, Standing, State,
+    Hour, Interval, Limits, Newer, Prices, Region, Schedule, SpinPrices, Standing, State,
 };
 use std::test::Fail;
 
@@ -60,14 +61,6 @@ fn two_halves(
     }
 }
 
-// The number of a refusal, and 0 for none.
-fn number<T: Drop>(answer: Result<T, Refusal>) -> u8 {
-    match answer {
-        Ok(_) => 0,
-        Err(refusal) => refusal.number(),
-    }
-}
-
 #[test]
 fn a_reading_is_shared_by_the_averages(rt: HostRuntime) -> Result<(), Fail> {
     let Ok(hour) = Hour::new(two_halves(half_hour(10), half_hour(20), Some(ROW), Some(16))) else {
@@ -81,8 +74,8 @@ fn a_reading_is_shared_by_the_averages(rt: HostRuntime) -> Result<(), Fail> {
     };
     assert_eq!(rt; first.adjusted, 11);
     assert_eq!(rt; second.adjusted, 21);
-    assert_eq!(rt; number(hour.figures(&Newer, Region::East, 4)), 13);
-    assert_eq!(rt; number(hour.figures(&Newer, Region::East, 24)), 6);
+    assert_eq!(rt; number(hour.figures(&Newer, Region::East, 4)), Some(13));
+    assert_eq!(rt; number(hour.figures(&Newer, Region::East, 24)), Some(6));
     Ok(())
 }
 
@@ -111,24 +104,19 @@ fn an_unsettled_hour_shows_what_was_sold_and_nothing_else(rt: HostRuntime) -> Re
             return Err(Fail::new("refused"));
         };
         let line = hour.line(&Newer, Region::East);
-        assert!(rt; matches!(line.state, State::Unsettled));
+        assert_eq!(rt; line.state, State::Unsettled);
         assert_eq!(rt; line.balance, 0);
         assert_eq!(rt; line.balancing.total, 0);
         assert_eq!(rt; line.total, line.ahead.total);
-        assert_eq!(rt; number(hour.figures(&Newer, Region::East, 3)), 15);
+        assert_eq!(rt; number(hour.figures(&Newer, Region::East, 3)), Some(15));
     }
     Ok(())
 }
 
 #[test]
-fn an_hour_holds_no_more_than_its_seconds(rt: HostRuntime) -> Result<(), Fail> {
-    match Hour::new(two_halves(half_hour(5_000), lasting(1_801), Some(ROW), None)) {
-        Ok(_) => Err(Fail::new("an hour of 3,601 seconds")),
-        Err(refusal) => {
-            assert_eq!(rt; refusal.number(), 11);
-            Ok(())
-        },
-    }
+fn an_hour_holds_no_more_than_its_seconds(rt: HostRuntime) {
+    let standing = two_halves(half_hour(5_000), lasting(1_801), Some(ROW), None);
+    assert_eq!(rt; number(Hour::new(standing)), Some(11));
 }
 
 #[test]
@@ -138,17 +126,20 @@ fn a_changed_hour_is_an_hour_of_the_changed_figures(rt: HostRuntime) -> Result<(
         return Err(Fail::new("refused"));
     };
     // 3,300 seconds elsewhere leave room for 300 and not for 301
-    assert_eq!(rt; number(hour.post(3, &lasting(1_500))), 0);
-    assert_eq!(rt; number(hour.post(4, &lasting(301))), 11);
-    assert_eq!(rt; number(hour.post(4, &lasting(300))), 0);
-    assert!(rt; matches!(hour.line(&Newer, Region::East).state, State::Settled));
-    assert_eq!(rt; number(hour.post(24, &half_hour(10))), 6);
-    assert_eq!(rt; number(hour.withdraw(5)), 13);
-    assert_eq!(rt; number(hour.withdraw(17)), 0);
+    assert_eq!(rt; number(hour.post(3, &lasting(1_500))), None);
+    assert_eq!(rt; number(hour.post(4, &lasting(301))), Some(11));
+    assert_eq!(rt; number(hour.post(4, &lasting(300))), None);
+    assert_eq!(rt; hour.line(&Newer, Region::East).state, State::Settled);
+    assert_eq!(rt; number(hour.post(24, &half_hour(10))), Some(6));
+    assert_eq!(rt; number(hour.withdraw(5)), Some(13));
+    assert_eq!(rt; number(hour.withdraw(17)), None);
     assert_eq!(rt; hour.line(&Newer, Region::East).seconds, 1_800);
-    assert_eq!(rt; number(hour.unread()), 0);
-    assert_eq!(rt; number(hour.unread()), 13);
-    assert_eq!(rt; number(hour.read(-1)), 14);
-    assert_eq!(rt; number(hour.schedule(&Schedule { spin: -1, ..ROW })), 9);
+    assert_eq!(rt; number(hour.unread()), None);
+    assert_eq!(rt; number(hour.unread()), Some(13));
+    assert_eq!(rt; number(hour.read(-1)), Some(14));
+    assert_eq!(rt;
+        number(hour.schedule(&Schedule { spin: -1, ..ROW })),
+        Some(9)
+    );
     Ok(())
 }

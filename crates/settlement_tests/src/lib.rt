@@ -6,6 +6,10 @@ mod hours;
 #[cfg(test)]
 mod limits;
 #[cfg(test)]
+mod refusals;
+#[cfg(test)]
+mod regions;
+#[cfg(test)]
 mod rounding;
 #[cfg(test)]
 mod scenarios;

@@ -1,4 +1,5 @@
-use settlement::{Interval, Limits, Prices, Refusal, Schedule, SpinPrices, check_reading};
+use crate::refusals::number;
+use settlement::{Interval, Limits, Prices, Schedule, SpinPrices, check_reading};
 
 const PRICES: Prices = Prices {
     energy: 1_000_000,
@@ -34,25 +35,17 @@ const ROW: Schedule = Schedule {
     prices: PRICES,
 };
 
-// The number of a refusal, and 0 for none.
-fn number(checked: Result<(), Refusal>) -> u8 {
-    match checked {
-        Ok(()) => 0,
-        Err(refusal) => refusal.number(),
-    }
-}
-
 #[test]
 fn a_record_names_the_first_limit_that_it_breaks(rt: HostRuntime) {
-    let cases: [(Interval, u8); 16] = [
-        (EDGE, 0),
-        (Interval { seconds: 5, ..EDGE }, 7),
+    let cases: [(Interval, Option<u8>); 16] = [
+        (EDGE, None),
+        (Interval { seconds: 5, ..EDGE }, Some(7)),
         (
             Interval {
                 seconds: 3_600,
                 ..EDGE
             },
-            0,
+            None,
         ),
         (
             Interval {
@@ -60,7 +53,7 @@ fn a_record_names_the_first_limit_that_it_breaks(rt: HostRuntime) {
                 flags: 128,
                 ..EDGE
             },
-            7,
+            Some(7),
         ),
         (
             Interval {
@@ -68,10 +61,10 @@ fn a_record_names_the_first_limit_that_it_breaks(rt: HostRuntime) {
                 average: -1,
                 ..EDGE
             },
-            8,
+            Some(8),
         ),
-        (Interval { flags: 16, ..EDGE }, 8),
-        (Interval { flags: 24, ..EDGE }, 0),
+        (Interval { flags: 16, ..EDGE }, Some(8)),
+        (Interval { flags: 24, ..EDGE }, None),
         (
             Interval {
                 average: -1,
@@ -81,14 +74,14 @@ fn a_record_names_the_first_limit_that_it_breaks(rt: HostRuntime) {
                 },
                 ..EDGE
             },
-            9,
+            Some(9),
         ),
         (
             Interval {
                 average: 2_000_001,
                 ..EDGE
             },
-            9,
+            Some(9),
         ),
         (
             Interval {
@@ -98,7 +91,7 @@ fn a_record_names_the_first_limit_that_it_breaks(rt: HostRuntime) {
                 },
                 ..EDGE
             },
-            9,
+            Some(9),
         ),
         (
             Interval {
@@ -108,21 +101,21 @@ fn a_record_names_the_first_limit_that_it_breaks(rt: HostRuntime) {
                 },
                 ..EDGE
             },
-            9,
+            Some(9),
         ),
         (
             Interval {
                 transactions: -1,
                 ..EDGE
             },
-            9,
+            Some(9),
         ),
         (
             Interval {
                 spin: 2_000_001,
                 ..EDGE
             },
-            9,
+            Some(9),
         ),
         (
             Interval {
@@ -132,7 +125,7 @@ fn a_record_names_the_first_limit_that_it_breaks(rt: HostRuntime) {
                 },
                 ..EDGE
             },
-            10,
+            Some(10),
         ),
         (
             Interval {
@@ -142,7 +135,7 @@ fn a_record_names_the_first_limit_that_it_breaks(rt: HostRuntime) {
                 },
                 ..EDGE
             },
-            10,
+            Some(10),
         ),
         (
             Interval {
@@ -152,7 +145,7 @@ fn a_record_names_the_first_limit_that_it_breaks(rt: HostRuntime) {
                 },
                 ..EDGE
             },
-            10,
+            Some(10),
         ),
     ];
     for (record, refusal) in cases {
@@ -166,7 +159,7 @@ fn a_row_names_power_before_price(rt: HostRuntime) {
         congestion: -1_000_001,
         ..PRICES
     };
-    assert_eq!(rt; number(ROW.check()), 0);
+    assert_eq!(rt; number(ROW.check()), None);
     assert_eq!(rt;
         number(Schedule {
             generation: 2_000_001,
@@ -174,7 +167,7 @@ fn a_row_names_power_before_price(rt: HostRuntime) {
             ..ROW
         }
         .check()),
-        9
+        Some(9)
     );
     assert_eq!(rt;
         number(Schedule {
@@ -182,23 +175,23 @@ fn a_row_names_power_before_price(rt: HostRuntime) {
             ..ROW
         }
         .check()),
-        9
+        Some(9)
     );
-    assert_eq!(rt; number(Schedule { spin: -1, ..ROW }.check()), 9);
+    assert_eq!(rt; number(Schedule { spin: -1, ..ROW }.check()), Some(9));
     assert_eq!(rt;
         number(Schedule {
             prices: dear,
             ..ROW
         }
         .check()),
-        10
+        Some(10)
     );
 }
 
 #[test]
 fn a_reading_lies_between_zero_and_two_million(rt: HostRuntime) {
-    assert_eq!(rt; number(check_reading(0)), 0);
-    assert_eq!(rt; number(check_reading(2_000_000)), 0);
-    assert_eq!(rt; number(check_reading(-1)), 14);
-    assert_eq!(rt; number(check_reading(2_000_001)), 14);
+    assert_eq!(rt; number(check_reading(0)), None);
+    assert_eq!(rt; number(check_reading(2_000_000)), None);
+    assert_eq!(rt; number(check_reading(-1)), Some(14));
+    assert_eq!(rt; number(check_reading(2_000_001)), Some(14));
 }

@@ -30,9 +30,7 @@ fn five_minutes() -> Interval {
 // Twelve of them, with 50 MW sold the day before at $25.25, $3.06 and -$5.49.
 pub fn operators_hour() -> Standing {
     let mut records = [None; 24];
-    for slot in 0..12usize {
-        records[slot] = Some(five_minutes());
-    }
+    records[..12].fill(Some(five_minutes()));
     let prices = Prices {
         energy: 2_525,
         loss: 306,

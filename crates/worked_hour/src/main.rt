@@ -43,15 +43,16 @@ fn print_line(rt: &HostRuntime, line: &HourLine) -> io::Result<()> {
         State::Settled => "settled",
         State::Unsettled => "unsettled",
     };
-    let intervals = line.intervals;
-    let seconds = line.seconds;
-    println!(rt; "  {state}, {intervals} intervals, {seconds} seconds")?;
+    println!(rt;
+        "  {state}, {} intervals, {} seconds",
+        line.intervals, line.seconds
+    )?;
     print_amounts(rt, "day-ahead", &line.ahead)?;
     print_amounts(rt, "balancing", &line.balancing)?;
-    let balance = line.balance;
-    let spin = line.spin;
-    let total = line.total;
-    println!(rt; "  balance {balance} kW seconds, spin {spin}, total {total}")
+    println!(rt;
+        "  balance {} kW seconds, spin {}, total {}",
+        line.balance, line.spin, line.total
+    )
 }
 
 fn print_edition<E: Edition>(
@@ -80,10 +81,7 @@ fn print_hour(rt: &HostRuntime, title: &str, standing: Standing, region: Region)
             print_edition(rt, "newer", &Newer, &hour, region)?;
             print_edition(rt, "older", &Older, &hour, region)
         }
-        Err(refusal) => {
-            let number = refusal.number();
-            println!(rt; "refused: {number}")
-        }
+        Err(refusal) => println!(rt; "refused: {}", refusal.number()),
     }
 }
 
