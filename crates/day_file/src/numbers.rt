@@ -41,10 +41,8 @@ pub(crate) fn check_zero(bytes: &[u8], place: usize) -> Result<(), FileFault>
     requires { place + length bytes.now < 2 ^ 64 }
     ensures { result ≡ ruled (not_zero place bytes.now) tt }
 {
-    for (i, byte) in bytes.iter().enumerate() {
-        if *byte != 0 {
-            return Err(FileFault::NotZero(place + i));
-        }
+    match bytes.iter().position(|byte| *byte != 0) {
+        Some(at) => Err(FileFault::NotZero(place + at)),
+        None => Ok(()),
     }
-    Ok(())
 }
