@@ -1,6 +1,6 @@
 -- What a header that is not refused tells.
-use Rattle.std.proofs.Common.{◌≡◌, ℕ, ◌+◌, ◌*◌, ◌≤◌, true, eqb, leb, List, [], ◌∷◌, length, get_or, None, arith}
-use Rattle.std.specs.List.{AllByRecursion as All}
+use Rattle.std.proofs.Common.{◌≡◌, ℕ, ◌+◌, ◌*◌, ◌≤◌, true, eqb, leb, List, length, get_or, None, arith}
+use Rattle.std.specs.List.{All}
 use Rattle.std.proofs.lemmas.Bool.Decides.{nat_tests}
 use Rattle.settlement.proofs.Rulings.{passed, neither}
 use Rattle.book.specs.declared.calls.Change.{Change}
@@ -34,8 +34,7 @@ is_eqb : (m n : ℕ) → m ≡ n → eqb m n ≡ true
 is_eqb m n e = grind (arith, nat_tests)
 
 both : (calls : List Change) → All FitKey calls → All FitFigures calls → All Fit calls
-both [] k f = tt
-both (c ∷ calls) k f = ((k.0, f.0), both calls k.1 f.1)
+both calls k f = λ i d h. (k i d h, f i d h)
 
 pub writable : (h : Header) (calls : List Change) (room : ℕ) → write_fault h (length calls) room ≡ None → All FitKey calls → All FitFigures calls → Valid h calls
 writable h calls room e k f =
