@@ -3,13 +3,10 @@ use Rattle.std.proofs.Common.{◌≡◌, ℕ, ◌+◌, true, false, not, cond, e
 use Rattle.std.specs.List.{position, position_from}
 use Rattle.std.specs.Option.{option_map}
 use Rattle.std.proofs.lemmas.Iterator.Adapters.{position_from-zero}
-use Rattle.std.proofs.lemmas.Bool.Decides.{nat_tests}
+use Rattle.std.proofs.lemmas.Bool.{eqb-true}
 use Rattle.settlement.proofs.Rulings.{passed}
 use Rattle.day_file.specs.declared.faults.FileFault.TheVariants.{NotZero}
 use Rattle.day_file.specs.Refusals.{not_zero}
-
-is_zero : (b : ℕ) → eqb b 0 ≡ true → b ≡ 0
-is_zero b h = grind (arith, nat_tests)
 
 -- The first byte that is not zero, counted from a place on.
 not_zero_from : (at i : ℕ) (bs : List ℕ) → not_zero (at + i) bs ≡ option_map (λ k. NotZero (at + k)) (position_from (λ b. not (eqb b 0)) i bs)
@@ -25,6 +22,6 @@ pub zeros_from : (at : ℕ) (bs : List ℕ) → not_zero at bs ≡ None → bs �
 zeros_from at [] e = refl
 zeros_from at (b ∷ bs) e =
     let p = passed (eqb b 0) _ _ e in
-    let z : b ≡ 0 = is_zero b p.0 in
+    let z : b ≡ 0 = eqb-true b 0 p.0 in
     let r = zeros_from (at + 1) bs p.1 in
     cc
