@@ -1,12 +1,14 @@
 -- Numbers to bytes and back, and parts written one after another.
-use Rattle.std.proofs.Common.{◌≡◌, ℕ, suc, ◌+◌, ◌-◌, ◌*◌, ◌/◌, ◌%◌, ◌^◌, ◌<◌, ◌≤◌, List, [], ◌∷◌, ◌++◌, length, get_or, take, drop, replicate, ℤ, pos, sym, refl, ap, ◌∙◌, subst, arith, take-add, w32, SFits, to_z, of_z, rules}
+use Rattle.std.proofs.Common.{◌≡◌, ℕ, zero, suc, ◌+◌, ◌*◌, ◌/◌, ◌%◌, ◌^◌, ◌<◌, ◌≤◌, List, [], ◌∷◌, ◌++◌, length, get_or, take, drop, replicate, map, ℤ, pos, sym, refl, ap, ◌∙◌, arith, take-add, w32, SFits, to_z, of_z, rules}
 use native.Mathlib.Nat.{div-div-eq-div-mul}
 use borrow.Author.Gap.{read_sfits}
 use borrow.Rule.Slice.PartMut.{put_mid}
 use lib.Signed.{mag}
-use Rattle.std.specs.List.{AllByRecursion as All}
+use Rattle.std.specs.List.{All, range_with_len}
+use Rattle.std.proofs.lemmas.List.FromFn.{fill_by_all}
+use Rattle.std.proofs.lemmas.List.Elements.{All-nil, All-cons, All-from_get_or}
 use Rattle.std.proofs.lemmas.Int.{ints, to_z-of_z, of_z-to_z}
-use Rattle.std.proofs.lemmas.List.{take_at, drop_at, drop-drop, append_assoc, length-take, take_more, take_all, drop_all, append-nil, drop_more, drop-replicate}
+use Rattle.std.proofs.lemmas.List.{take_at, drop_at, drop-drop, append_assoc, drop_more, drop-replicate, get_or-drop}
 use Rattle.day_file.specs.Numbers.{half, quad, word, words}
 use Rattle.day_file.specs.Encode.{padded}
 
@@ -19,6 +21,18 @@ four n h =
 
 of_z_below : (z : ℤ) → SFits w32 z → of_z w32 z < 2 ^ 32
 of_z_below z f = search (rules, ints)
+
+-- A number as a machine hands it on.
+pub handed : {z : ℤ} → mag z < 2147483648 → to_z w32 (of_z w32 z) ≡ z
+handed {z} h = to_z-of_z w32 z (record { sfits = h })
+
+-- A number that was read, as a machine hands it on.
+pub read_word : (z : ℤ) {bs : List ℕ} → mag z < 2147483648 → word z ≡ bs → word (to_z w32 (of_z w32 z)) ≡ bs
+read_word z {bs} h e = ap word (handed {z = z} h) ∙ e
+
+-- Numbers, listed as a machine hands them on.
+pub listed : (zs : List ℤ) (n : ℕ) → length zs ≡ n → All (SFits w32) zs → map (λ k. to_z w32 (of_z w32 (get_or zs k (pos 0)))) (range_with_len 0 n) ≡ zs
+listed zs n l f = sym (fill_by_all (λ k. to_z w32 (of_z w32 (get_or zs k (pos 0)))) zs n (pos 0) l (λ k h. sym (to_z-of_z w32 _ (f k (pos 0) (omega arith)))))
 
 -- The number that four bytes write.
 abbrev pub value_of : ℕ → ℕ → ℕ → ℕ → ℤ
@@ -52,6 +66,18 @@ half_back a b p q =
 abbrev pub Small : List ℕ → Type 0
 Small bs = (k : ℕ) → get_or bs k 0 < 256
 
+small_take : (m : ℕ) (l : List ℕ) → Small l → Small (take m l)
+small_take zero l s i = omega arith
+small_take (suc m) [] s i = omega arith
+small_take (suc m) (x ∷ l) s zero = s 0
+small_take (suc m) (x ∷ l) s (suc i) = small_take m l (λ j. s (suc j)) i
+
+pub small_part : (m k : ℕ) (l : List ℕ) → Small l → Small (take m (drop k l))
+small_part m k l s = small_take m (drop k l) (λ i. let e = get_or-drop k l i 0 in let h = s (k + i) in omega arith)
+
+pub all_small : (l : List ℕ) → Small l → All (λ b. b < 2 ^ 8) l
+all_small l s = All-from_get_or (λ b. b < 2 ^ 8) l 0 (λ i h. s i)
+
 pub four_at : (l : List ℕ) (k : ℕ) → k + 4 ≤ length l → take 4 (drop k l) ≡ get_or l k 0 ∷ get_or l (k + 1) 0 ∷ get_or l (k + 2) 0 ∷ get_or l (k + 3) 0 ∷ []
 four_at l k h =
     let d0 = drop_more l k 0 (omega arith) in
@@ -64,14 +90,6 @@ four_at l k h =
 pub value_back : (bs : List ℕ) (i : ℕ) → Small bs → i + 4 ≤ length bs → word (value_at bs i) ≡ take 4 (drop i bs)
 value_back bs i s h = quad_back _ _ _ _ (s i) (s (i + 1)) (s (i + 2)) (s (i + 3)) ∙ sym (four_at bs i h)
 
--- As a machine hands a number on.
-pub handed : {z : ℤ} → mag z < 2147483648 → to_z w32 (of_z w32 z) ≡ z
-handed {z} h = to_z-of_z w32 z (record { sfits = h })
-
--- A number that was read, as a machine hands it on.
-pub read_word : (z : ℤ) {bs : List ℕ} → mag z < 2147483648 → word z ≡ bs → word (to_z w32 (of_z w32 z)) ≡ bs
-read_word z {bs} h e = ap word (handed {z = z} h) ∙ e
-
 -- So many numbers that stand in the bytes from a place on.
 pub record Stand (bs : List ℕ) (i n : ℕ) (zs : List ℤ) : Type 0 where
   pub there : words zs ≡ take (4 * n) (drop i bs)
@@ -79,40 +97,21 @@ pub record Stand (bs : List ℕ) (i n : ℕ) (zs : List ℤ) : Type 0 where
 
 pub none_stand : {bs : List ℕ} {i : ℕ} → Stand bs i 0 []
 unfolding words
-none_stand {bs} {i} = record { there = refl; fit = tt }
+none_stand {bs} {i} = record { there = refl; fit = All-nil (SFits w32) }
 
--- One number more, in front of others, as a machine hands it on.
-pub more_stand : {bs : List ℕ} {i n : ℕ} (z : ℤ) {zs : List ℤ} → mag z < 2147483648 → word z ≡ take 4 (drop i bs) → Stand bs (4 + i) n zs → Stand bs i (suc n) (to_z w32 (of_z w32 z) ∷ zs)
-unfolding words
-more_stand {bs} {i} {n} z {zs} h p q =
-    let e = handed {z = z} h in
-    record {
-      there = ap (λ x. word x ++ words zs) e ∙ ap (λ x. x ++ words zs) p ∙ ap (λ x. take 4 (drop i bs) ++ x) (q.there ∙ ap (take (4 * n)) (sym (drop-drop 4 i bs ∙ ap (λ m. drop m bs) (omega arith)))) ∙ sym (take-add 4 (4 * n) (drop i bs)) ∙ ap (λ m. take m (drop i bs)) (omega arith);
-      fit = (subst (SFits w32) (sym e) (record { sfits = h }), q.fit);
-    }
-
--- The same of the number that the bytes there write.
+-- One number more, in front of others: the one that the bytes there write.
 pub value_stand : {bs : List ℕ} {i n : ℕ} {zs : List ℤ} → Small bs → i + 4 ≤ length bs → Stand bs (4 + i) n zs → Stand bs i (suc n) (value_at bs i ∷ zs)
 unfolding words
 value_stand {bs} {i} {n} {zs} s h q =
     record {
       there = ap (λ x. x ++ words zs) (value_back bs i s h) ∙ ap (λ x. take 4 (drop i bs) ++ x) (q.there ∙ ap (take (4 * n)) (sym (drop-drop 4 i bs ∙ ap (λ m. drop m bs) (omega arith)))) ∙ sym (take-add 4 (4 * n) (drop i bs)) ∙ ap (λ m. take m (drop i bs)) (omega arith);
-      fit = (read_sfits w32 _, q.fit);
+      fit = All-cons (SFits w32) _ zs (read_sfits w32 _) q.fit;
     }
-
--- Where the numbers stand, written out.
-pub stands : (bs : List ℕ) (i n : ℕ) {zs : List ℤ} → Stand bs i n zs → Stand bs i n zs
-stands bs i n s = s
 
 pub length-words : (zs : List ℤ) → length (words zs) ≡ 4 * length zs
 unfolding words
 length-words [] = refl
 length-words (z ∷ zs) = let h = length-words zs in omega arith
-
-words_push : (zs : List ℤ) (z : ℤ) → words (zs ++ z ∷ []) ≡ words zs ++ word z
-unfolding words
-words_push [] z = refl
-words_push (y ∷ zs) z = ap (λ bs. word y ++ bs) (words_push zs z)
 
 -- A part written right after what is written already.
 pub grow : (w ys old xs : List ℕ) (a k e : ℕ) → length w ≡ a → length ys ≡ k → e ≡ a + k → xs ≡ w ++ drop a old → put_mid a k xs ys ≡ (w ++ ys) ++ drop e old
@@ -123,20 +122,5 @@ grow w ys old xs a k e p q r h =
     let g = append_assoc w ys (drop e old) in
     cc
 
-pub words_more : (zs : List ℤ) (i : ℕ) (out old part : List ℕ) → i < length zs → part ≡ word (get_or zs i (pos 0)) → out ≡ words (take i zs) ++ drop (4 * i) old → put_mid (4 * i) ((4 * i + 4) - (4 * i)) out part ≡ words (take (i + 1) zs) ++ drop (4 * (i + 1)) old
-words_more zs i out old part h e g =
-    let n : length (words (take i zs)) ≡ 4 * i = length-words (take i zs) ∙ (simp length-take (omega arith)) in
-    let m : length part ≡ (4 * i + 4) - (4 * i) = ap length e ∙ (omega arith) in
-    let w : words (take (i + 1) zs) ≡ words (take i zs) ++ part = ap words (take_more zs i (pos 0) h) ∙ words_push (take i zs) (get_or zs i (pos 0)) ∙ ap (λ bs. words (take i zs) ++ bs) (sym e) in
-    grow (words (take i zs)) part old out (4 * i) _ (4 * (i + 1)) n m (omega arith) g ∙ ap (λ bs. bs ++ drop (4 * (i + 1)) old) (sym w)
-
-pub words_all : (zs : List ℤ) (i : ℕ) (out old : List ℕ) → length zs ≤ i → length old ≡ 4 * length zs → out ≡ words (take i zs) ++ drop (4 * i) old → out ≡ words zs
-words_all zs i out old h k g =
-    let t = take_all i zs h in
-    let d : drop (4 * i) old ≡ [] = drop_all (4 * i) old (omega arith) in
-    let z = append-nil (words zs) in
-    cc
-
-pub pad_is : (zs : List ℤ) (w f old : List ℕ) → w ≡ words zs → f ≡ replicate (length old) 0 → length old ≡ 48 → w ++ drop (4 * length zs) f ≡ padded zs
-pad_is zs w f old p q n =
-    ap (λ x. x ++ drop (4 * length zs) f) p ∙ ap (λ x. words zs ++ drop (4 * length zs) x) (q ∙ ap (λ m. replicate m 0) n) ∙ ap (λ x. words zs ++ x) (drop-replicate (4 * length zs) 48 0)
+pub pad_is : (zs : List ℤ) (w : List ℕ) → w ≡ words zs → w ++ drop (4 * length zs) (replicate 48 0) ≡ padded zs
+pad_is zs w p = ap (λ x. x ++ drop (4 * length zs) (replicate 48 0)) p ∙ ap (λ x. words zs ++ x) (drop-replicate (4 * length zs) 48 0)

@@ -1,8 +1,7 @@
 -- The call that a key and a body are the bytes of: there is one exactly if they have no fault.
-use Rattle.std.proofs.Common.{◌≡◌, ℕ, zero, suc, ◌+◌, ◌*◌, ◌^◌, ◌<◌, List, [], length, get_or, ℤ, None, sym, refl, ap, ◌∙◌, arith, w32, SFits}
+use Rattle.std.proofs.Common.{◌≡◌, ℕ, zero, suc, ◌+◌, ◌*◌, ◌^◌, ◌<◌, List, [], length, get_or, ℤ, pos, lit<, None, sym, refl, ap, ◌∙◌, arith, w32, SFits}
 use borrow.Author.Gap.{read_sfits}
-use Rattle.std.specs.List.{AllByRecursion as All}
-use Rattle.std.proofs.ByRecursion.{All-from_get_or}
+use Rattle.std.specs.List.{All}
 use Rattle.settlement.specs.declared.figures.Interval.{Interval}
 use Rattle.settlement.specs.declared.figures.Limits.{Limits}
 use Rattle.settlement.specs.declared.figures.Prices.{Prices}
@@ -14,7 +13,7 @@ use Rattle.day_file.specs.Numbers.{words}
 use Rattle.day_file.specs.Encode.{row_figures, record_figures, key, body}
 use Rattle.day_file.specs.Refusals.{key_fault, body_fault}
 use Rattle.day_file.specs.Valid.{Fit}
-use Rattle.day_file.proofs.Bytes.{Small, value_at, value_back, word_back, two_back, Stand, none_stand, value_stand}
+use Rattle.day_file.proofs.Bytes.{Small, all_small, value_at, value_back, word_back, two_back, Stand, none_stand, value_stand}
 use Rattle.day_file.proofs.Bodies.{front_read}
 use Rattle.day_file.proofs.Faultless.{kind_known, plain_key, slot_key, key_fit, schedule_body, posting_body, withdrawal_body, reading_body, unread_body}
 
@@ -70,17 +69,17 @@ same_record x0 x1 x2 x3 x4 x5 x6 x7 = cc
 row_back : (h : ℕ) (r : Schedule) → All (SFits w32) (row_figures r) → row_in (body (Scheduled h r)) ≡ r
 unfolding body words
 row_back h r f =
-    same_row (word_back r.generation [] f.0) (word_back r.transactions [] f.1.0) (word_back r.spin [] f.1.1.0)
-    (same_prices (word_back r.prices.energy [] f.1.1.1.0) (word_back r.prices.loss [] f.1.1.1.1.0) (word_back r.prices.congestion [] f.1.1.1.1.1.0))
+    same_row (word_back r.generation [] (f 0 (pos 0) (lit< tt))) (word_back r.transactions [] (f 1 (pos 0) (lit< tt))) (word_back r.spin [] (f 2 (pos 0) (lit< tt)))
+    (same_prices (word_back r.prices.energy [] (f 3 (pos 0) (lit< tt))) (word_back r.prices.loss [] (f 4 (pos 0) (lit< tt))) (word_back r.prices.congestion [] (f 5 (pos 0) (lit< tt))))
 
 record_back : (h s : ℕ) (v : Interval) → v.seconds < 2 ^ 16 → All (SFits w32) (record_figures v) → record_in (body (Posted h s v)) ≡ v
 unfolding body words
 record_back h s v n f =
-    same_record (two_back v.seconds n) refl (word_back v.average [] f.0)
-    (same_limits (word_back v.limits.rtd [] f.1.0) (word_back v.limits.agc [] f.1.1.0) (word_back v.limits.energy [] f.1.1.1.0))
-    (word_back v.transactions [] f.1.1.1.1.0) (word_back v.spin [] f.1.1.1.1.1.0)
-    (same_prices (word_back v.prices.energy [] f.1.1.1.1.1.1.0) (word_back v.prices.loss [] f.1.1.1.1.1.1.1.0) (word_back v.prices.congestion [] f.1.1.1.1.1.1.1.1.0))
-    (same_reserve (word_back v.reserve.east [] f.1.1.1.1.1.1.1.1.1.0) (word_back v.reserve.west [] f.1.1.1.1.1.1.1.1.1.1.0))
+    same_record (two_back v.seconds n) refl (word_back v.average [] (f 0 (pos 0) (lit< tt)))
+    (same_limits (word_back v.limits.rtd [] (f 1 (pos 0) (lit< tt))) (word_back v.limits.agc [] (f 2 (pos 0) (lit< tt))) (word_back v.limits.energy [] (f 3 (pos 0) (lit< tt))))
+    (word_back v.transactions [] (f 4 (pos 0) (lit< tt))) (word_back v.spin [] (f 5 (pos 0) (lit< tt)))
+    (same_prices (word_back v.prices.energy [] (f 6 (pos 0) (lit< tt))) (word_back v.prices.loss [] (f 7 (pos 0) (lit< tt))) (word_back v.prices.congestion [] (f 8 (pos 0) (lit< tt))))
+    (same_reserve (word_back v.reserve.east [] (f 9 (pos 0) (lit< tt))) (word_back v.reserve.west [] (f 10 (pos 0) (lit< tt))))
 
 -- A call is the one that its bytes give.
 pub call_back : (c : Change) → Fit c → call_of (key c) (body c) ≡ c
@@ -101,9 +100,6 @@ pub record Gives (k b : List ℕ) (c : Change) : Type 0 where
   pub fit : Fit c
 
 module _ (p q : ℕ) (k b : List ℕ) (lk : length k ≡ 4) (lb : length b ≡ 48) (sk : Small k) (sb : Small b) (e : key_fault p k ≡ None) where
-  all_bytes : All (λ x. x < 2 ^ 8) k
-  all_bytes = All-from_get_or (λ x. x < 2 ^ 8) k 0 (λ i h. sk i)
-
   row_stands : Stand b 0 6 (row_figures (row_in b))
   row_stands =
       value_stand sb (omega arith) (value_stand sb (omega arith) (value_stand sb (omega arith) (value_stand sb (omega arith) (value_stand sb (omega arith) (value_stand sb (omega arith) none_stand)))))
@@ -117,19 +113,19 @@ module _ (p q : ℕ) (k b : List ℕ) (lk : length k ≡ 4) (lb : length b ≡ 4
   kind_gives zero i l u f = absurd (omega arith)
   kind_gives (suc zero) i l u f =
       let x = plain_key p 1 k lk i refl e in
-      record { keyed = x; bodied = schedule_body q (get_or k 1 0) (row_in b) b lb f row_stands.there; fit = (key_fit k _ all_bytes x, row_stands.fit) }
+      record { keyed = x; bodied = schedule_body q (get_or k 1 0) (row_in b) b lb f row_stands.there; fit = (key_fit k _ (all_small k sk) x, row_stands.fit) }
   kind_gives (suc (suc zero)) i l u f =
       let x = slot_key p 2 k lk i refl e in
       record {
         keyed = x;
         bodied = posting_body q (get_or k 1 0) (get_or k 2 0) (record_in b) b lb f (front_read b _ sb lb refl) record_stands.there;
-        fit = (key_fit k _ all_bytes x, (let y = sb 0 in let z = sb 1 in omega arith, sb 2, record_stands.fit));
+        fit = (key_fit k _ (all_small k sk) x, (let y = sb 0 in let z = sb 1 in omega arith, sb 2, record_stands.fit));
       }
-  kind_gives (suc (suc (suc zero))) i l u f = let x = slot_key p 3 k lk i refl e in record { keyed = x; bodied = withdrawal_body q (get_or k 1 0) (get_or k 2 0) b lb f; fit = (key_fit k _ all_bytes x, tt) }
+  kind_gives (suc (suc (suc zero))) i l u f = let x = slot_key p 3 k lk i refl e in record { keyed = x; bodied = withdrawal_body q (get_or k 1 0) (get_or k 2 0) b lb f; fit = (key_fit k _ (all_small k sk) x, tt) }
   kind_gives (suc (suc (suc (suc zero)))) i l u f =
       let x = plain_key p 4 k lk i refl e in
-      record { keyed = x; bodied = reading_body q (get_or k 1 0) (value_at b 0) b lb f (value_back b 0 sb (omega arith)); fit = (key_fit k _ all_bytes x, read_sfits w32 _) }
-  kind_gives (suc (suc (suc (suc (suc zero))))) i l u f = let x = plain_key p 5 k lk i refl e in record { keyed = x; bodied = unread_body q (get_or k 1 0) b lb f; fit = (key_fit k _ all_bytes x, tt) }
+      record { keyed = x; bodied = reading_body q (get_or k 1 0) (value_at b 0) b lb f (value_back b 0 sb (omega arith)); fit = (key_fit k _ (all_small k sk) x, read_sfits w32 _) }
+  kind_gives (suc (suc (suc (suc (suc zero))))) i l u f = let x = plain_key p 5 k lk i refl e in record { keyed = x; bodied = unread_body q (get_or k 1 0) b lb f; fit = (key_fit k _ (all_small k sk) x, tt) }
   kind_gives (suc (suc (suc (suc (suc (suc n)))))) i l u f = absurd (omega arith)
 
   pub gives : body_fault (get_or k 0 0) q b ≡ None → Gives k b (call_of k b)

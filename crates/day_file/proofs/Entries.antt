@@ -1,14 +1,15 @@
 -- Keys and bodies one after another, written and read.
-use Rattle.std.proofs.Common.{◌≡◌, ℕ, ◌+◌, ◌-◌, ◌*◌, ◌<◌, ◌≤◌, List, [], ◌∷◌, ◌++◌, length, get_or, take, drop, sym, refl, ap, ◌∙◌, mul-add, arith, take-add}
+use Rattle.std.proofs.Common.{◌≡◌, ℕ, ◌+◌, ◌-◌, ◌*◌, List, [], ◌∷◌, ◌++◌, length, get_or, drop, refl, ap, ◌∙◌, arith}
 use borrow.Rule.Slice.PartMut.{put_mid}
 use Rattle.std.specs.List.{flat_map}
-use Rattle.std.proofs.lemmas.List.{take_all, length-take, length-append, take_more, append-nil, append_assoc, drop_all, flat_map_more, get_or_default}
+use Rattle.std.proofs.lemmas.List.{length-append, append_assoc}
 use Rattle.book.specs.declared.calls.Change.{Change}
 use Rattle.book.specs.declared.calls.Change.TheVariants.{Scheduled, Posted, Withdrawn, Read, Unread}
 use Rattle.day_file.specs.declared.day.Header.{Header}
 use Rattle.day_file.specs.Numbers.{half, words}
 use Rattle.day_file.specs.Encode.{key, body, header, encode}
 use Rattle.day_file.proofs.Bytes.{grow}
+use Rattle.day_file.proofs.Parts.{length_parts}
 
 pub length-key : (c : Change) → length (key c) ≡ 4
 length-key (Scheduled h r) = refl
@@ -25,37 +26,11 @@ length-body (Withdrawn h s) = refl
 length-body (Read h z) = refl
 length-body (Unread h) = refl
 
-module _ (f : Change → List ℕ) (s : ℕ) (size : (c : Change) → length (f c) ≡ s) where
-  pub length_joined : (xs : List Change) → length (flat_map f xs) ≡ s * length xs
-  length_joined [] = omega arith
-  length_joined (x ∷ xs) = let h = length_joined xs in let k = size x in length-append (f x) (flat_map f xs) ∙ (omega (arith, mul-add s 1 (length xs)))
-
-  -- One more element written.
-  pub joined_put : (xs : List Change) (x : Change) (i a b : ℕ) (out old part : List ℕ) → i < length xs → x ≡ get_or xs i x → part ≡ f x → a ≡ s * i → b ≡ s * (i + 1) → out ≡ flat_map f (take i xs) ++ drop a old → put_mid a ((a + s) - a) out part ≡ flat_map f (take (i + 1) xs) ++ drop b old
-  joined_put xs x i a b out old part h r e p q g =
-      let n : length (take i xs) ≡ i = length-take i xs ∙ omega arith in
-      let m : length (flat_map f (take i xs)) ≡ a = length_joined (take i xs) ∙ ap (λ k. s * k) n ∙ sym p in
-      let t : take (i + 1) xs ≡ take i xs ++ x ∷ [] = take_more xs i x h ∙ ap (λ y. take i xs ++ y ∷ []) (sym r) in
-      let j : flat_map f (take (i + 1) xs) ≡ flat_map f (take i xs) ++ f x = ap (flat_map f) t ∙ sym (flat_map_more f [] (take i xs) x) in
-      grow (flat_map f (take i xs)) part old out a ((a + s) - a) b m (ap length e ∙ size x ∙ omega arith) (omega (arith, mul-add s i 1)) g ∙ ap (λ y. (flat_map f (take i xs) ++ y) ++ drop b old) e ∙ ap (λ y. y ++ drop b old) (sym j)
-
-  -- All written.
-  pub joined_all : (xs : List Change) (i a : ℕ) (out old : List ℕ) → length xs ≤ i → length old ≤ a → out ≡ flat_map f (take i xs) ++ drop a old → out ≡ flat_map f xs
-  joined_all xs i a out old h k g = g ∙ ap (λ y. flat_map f y ++ drop a old) (take_all i xs h) ∙ ap (λ y. flat_map f xs ++ y) (drop_all a old k) ∙ append-nil (flat_map f xs)
-
-  -- One more element read.
-  pub joined_read : (xs : List Change) (x : Change) (a b : ℕ) (bs part : List ℕ) → flat_map f xs ≡ take a bs → f x ≡ part → part ≡ take s (drop a bs) → b ≡ a + s → flat_map f (xs ++ x ∷ []) ≡ take b bs
-  joined_read xs x a b bs part h e p q = sym (flat_map_more f [] xs x) ∙ ap (λ y. y ++ f x) h ∙ ap (λ y. take a bs ++ y) (e ∙ p) ∙ sym (take-add a s bs) ∙ ap (λ k. take k bs) (sym q)
-
--- The element of a loop over a slice, at any default.
-pub at_place : (xs : List Change) (i : ℕ) (d : Change) → i < length xs → get_or xs i d ≡ get_or xs i (get_or xs i d)
-at_place xs i d h = get_or_default xs i d (get_or xs i d) h
-
 pub length-keys : (xs : List Change) → length (flat_map key xs) ≡ 4 * length xs
-length-keys xs = length_joined key 4 length-key xs
+length-keys xs = length_parts key 4 length-key xs
 
 pub length-bodies : (xs : List Change) → length (flat_map body xs) ≡ 48 * length xs
-length-bodies xs = length_joined body 48 length-body xs
+length-bodies xs = length_parts body 48 length-body xs
 
 pub length-encode : (h : Header) (cs : List Change) → length (encode h cs) ≡ 6 + 52 * length cs
 length-encode h cs = let a = length-keys cs in let b = length-bodies cs in let l = length-append (flat_map key cs) (flat_map body cs) in omega arith

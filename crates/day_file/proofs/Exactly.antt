@@ -1,7 +1,8 @@
 -- A file has no fault exactly if it is what a day is written as, and of one day only.
 use Rattle.std.proofs.Common.{◌≡◌, ℕ, zero, suc, ◌+◌, ◌-◌, ◌*◌, ◌≤◌, List, [], ◌∷◌, ◌++◌, length, get_or, take, drop, Some, None, Ok, Err, vec_items, Option, Result, sym, refl, ap, ◌∙◌, arith, take-add, MatchResult}
-use Rattle.std.specs.List.{flat_map as joined, AllByRecursion as All}
-use Rattle.std.proofs.lemmas.List.{take_at, drop_at, append_assoc, drop-drop, length-drop, length-take, get_or-drop, append-nil}
+use Rattle.std.specs.List.{flat_map as joined, All}
+use Rattle.std.proofs.lemmas.List.Elements.{All-nil, All-cons, All-head, All-tail}
+use Rattle.std.proofs.lemmas.List.{take_at, drop_at, append_assoc, drop-drop, length-drop, length-take, append-nil}
 use Rattle.settlement.specs.Rulings.{first}
 use Rattle.settlement.proofs.Rulings.{neither}
 use Rattle.book.specs.declared.calls.Change.{Change}
@@ -14,7 +15,7 @@ use Rattle.day_file.specs.Encode.{key, body, encode}
 use Rattle.day_file.specs.Valid.{Fit, Valid}
 use Rattle.day_file.specs.Refusals.{key_fault, body_fault, entry_fault, entries_fault, opening_fault, file_fault, count_in, header_in}
 use Rattle.day_file.specs.Reading.{FileOf, DayOf, Told, Exact}
-use Rattle.day_file.proofs.Bytes.{Small, four_at, two_back}
+use Rattle.day_file.proofs.Bytes.{Small, small_part, four_at, two_back}
 use Rattle.day_file.proofs.Decode.{call_of, same_call, gives}
 use Rattle.day_file.proofs.Entries.{length-key, length-body, length-keys, length-encode}
 use Rattle.day_file.proofs.Files.{entry_clear, entries_step, all_read}
@@ -57,15 +58,6 @@ pub written_clear : (h : Header) (cs : List Change) (bytes : List ℕ) → FileO
 written_clear h cs bytes f = ap file_fault f.written ∙ file_clear h cs f.valid
 
 -- Bytes with no fault are what some calls are written as.
-small_take : (m : ℕ) (l : List ℕ) → Small l → Small (take m l)
-small_take zero l s i = omega arith
-small_take (suc m) [] s i = omega arith
-small_take (suc m) (x ∷ l) s zero = s 0
-small_take (suc m) (x ∷ l) s (suc i) = small_take m l (λ j. s (suc j)) i
-
-small_part : (m k : ℕ) (l : List ℕ) → Small l → Small (take m (drop k l))
-small_part m k l s = small_take m (drop k l) (λ i. let e = get_or-drop k l i 0 in let h = s (k + i) in omega arith)
-
 length_at : (m k : ℕ) (l : List ℕ) → k + m ≤ length l → length (take m (drop k l)) ≡ m
 length_at m k l h = length-take m (drop k l) ∙ (let d = length-drop k l in omega arith)
 
@@ -81,7 +73,7 @@ two_parts m n k l = ap (λ x. take m (drop k l) ++ take n x) (sym (drop-drop m k
 
 entries_give : (bytes : List ℕ) → Small bytes → (n k b : ℕ) → k + 4 * n ≤ length bytes → b + 48 * n ≤ length bytes → entries_fault bytes n k b ≡ None → CallsIn bytes n k b
 unfolding entries_fault
-entries_give bytes s zero k b hk hb e = record { calls = []; many = refl; keys = refl; bodies = refl; fit = tt }
+entries_give bytes s zero k b hk hb e = record { calls = []; many = refl; keys = refl; bodies = refl; fit = All-nil Fit }
 entries_give bytes s (suc n) k b hk hb e =
     let f = neither (entry_fault bytes k b) _ e in
     let g = neither (key_fault k (take 4 (drop k bytes))) _ f.0 in
@@ -94,7 +86,7 @@ entries_give bytes s (suc n) k b hk hb e =
       many = ap suc r.many;
       keys = ap (λ y. y ++ joined key r.calls) x.keyed ∙ ap (λ y. take 4 (drop k bytes) ++ y) r.keys ∙ two_parts 4 (4 * n) k bytes ∙ ap (λ m. take m (drop k bytes)) (omega arith);
       bodies = ap (λ y. y ++ joined body r.calls) x.bodied ∙ ap (λ y. take 48 (drop b bytes) ++ y) r.bodies ∙ two_parts 48 (48 * n) b bytes ∙ ap (λ m. take m (drop b bytes)) (omega arith);
-      fit = (x.fit, r.fit);
+      fit = All-cons Fit c r.calls x.fit r.fit;
     }
 
 none_left : (bytes : List ℕ) (n k b : ℕ) → entries_fault bytes (n - n) k b ≡ None
@@ -127,7 +119,7 @@ same_calls (x ∷ cs) (y ∷ ds) n f g a b =
     let bx : body x ≡ body y = sym (take_at (body x) (joined body cs) 48 (length-body x)) ∙ ap (take 48) b ∙ take_at (body y) (joined body ds) 48 (length-body y) in
     let ks : joined key cs ≡ joined key ds = sym (drop_at (key x) (joined key cs) 4 (length-key x)) ∙ ap (drop 4) a ∙ drop_at (key y) (joined key ds) 4 (length-key y) in
     let bs : joined body cs ≡ joined body ds = sym (drop_at (body x) (joined body cs) 48 (length-body x)) ∙ ap (drop 48) b ∙ drop_at (body y) (joined body ds) 48 (length-body y) in
-    ap (λ u. u ∷ cs) (same_call x y f.0 g.0 kx bx) ∙ ap (λ u. y ∷ u) (same_calls cs ds (omega arith) f.1 g.1 ks bs)
+    ap (λ u. u ∷ cs) (same_call x y (All-head Fit x cs f) (All-head Fit y ds g) kx bx) ∙ ap (λ u. y ∷ u) (same_calls cs ds (omega arith) (All-tail Fit x cs f) (All-tail Fit y ds g) ks bs)
 
 abbrev header_of : ℕ → ℕ → ℕ → Header
 header_of a b c = record { hours = a; edition = b; region = c }

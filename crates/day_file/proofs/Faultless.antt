@@ -1,15 +1,20 @@
 -- A key and a body that have no fault are those of a call.
-use Rattle.std.proofs.Common.{◌≡◌, ℕ, ◌+◌, ◌^◌, ◌<◌, ◌≤◌, Bool, true, false, cond, eqb, List, [], ◌∷◌, ◌++◌, length, get_or, take, drop, replicate, ℤ, None, sym, refl, ap, ◌∙◌, subst, arith}
-use Rattle.std.specs.List.{AllByRecursion as All}
+use Rattle.std.proofs.Common.{◌≡◌, ℕ, ◌+◌, ◌^◌, ◌<◌, ◌≤◌, Bool, true, false, cond, List, [], ◌∷◌, ◌++◌, length, get_or, take, drop, replicate, ℤ, None, sym, refl, ap, ◌∙◌, subst, arith}
+use Rattle.std.specs.List.{All}
 use Rattle.std.proofs.lemmas.List.{take_all, length-drop, drop_more, take-append-drop}
 use Rattle.std.proofs.lemmas.Bool.Decides.{nat_tests}
 use Rattle.settlement.proofs.Rulings.{passed}
 use Rattle.settlement.specs.declared.figures.Interval.{Interval}
-use Rattle.settlement.specs.declared.figures.Schedule.{Schedule}
+use Rattle.settlement.specs.declared.figures.Schedule.{Schedule as Row}
 use Rattle.book.specs.declared.calls.Change.TheVariants.{Scheduled, Posted, Withdrawn, Read, Unread}
+use Rattle.settlement.specs.Rulings.{unless}
+use Rattle.day_file.specs.declared.faults.FileFault.TheVariants.{Kind as BadKind}
+use Rattle.day_file.specs.declared.kind.Kind.{Kind}
+use Rattle.day_file.specs.declared.kind.Kind.TheVariants.{Schedule, Posting, Withdrawal, Reading, ReadingWithdrawn}
+use Rattle.day_file.specs.Kinds.{kind_byte}
 use Rattle.day_file.specs.Numbers.{half, word, words}
 use Rattle.day_file.specs.Encode.{row_figures, record_figures, body}
-use Rattle.day_file.specs.Refusals.{not_zero, is_kind_byte, names_slot, key_fault, body_fault}
+use Rattle.day_file.specs.Refusals.{not_zero, is_kind_byte, names_slot, key_zeros, key_fault, body_fault}
 use Rattle.day_file.proofs.Zeros.{zeros_from}
 
 four_is : (l : List ℕ) → length l ≡ 4 → l ≡ get_or l 0 0 ∷ get_or l 1 0 ∷ get_or l 2 0 ∷ get_or l 3 0 ∷ []
@@ -33,6 +38,17 @@ choose_else false x y z e h = h
 choose_then : {A : Type 0} (s : Bool) (x y z : A) → s ≡ true → cond s x y ≡ z → x ≡ z
 choose_then true x y z e h = h
 choose_then false x y z e h = absurd (let n : ◌≡◌ {A = ℕ} 0 1 = cc in omega arith)
+
+is_kind : (kind : Kind) → is_kind_byte (kind_byte kind) ≡ true
+is_kind Schedule = refl
+is_kind Posting = refl
+is_kind Withdrawal = refl
+is_kind Reading = refl
+is_kind ReadingWithdrawn = refl
+
+-- A key of a kind.
+pub key_of_kind : (kind : Kind) (at : ℕ) (l : List ℕ) → kind_byte kind ≡ get_or l 0 0 → key_fault at l ≡ key_zeros (kind_byte kind) at l
+key_of_kind kind at l e = ap (λ k. unless (is_kind_byte k) (BadKind at) (key_zeros k at l)) (sym e) ∙ ap (λ t. unless t (BadKind at) (key_zeros (kind_byte kind) at l)) (is_kind kind)
 
 -- A key with no slot, and one with a slot.
 module _ (at k : ℕ) (l : List ℕ) (n : length l ≡ 4) (e : get_or l 0 0 ≡ k) where
@@ -64,7 +80,7 @@ drop_zero i m at b n e =
     zeros_from at (drop i b) (ap (not_zero at) (sym t) ∙ e) ∙ ap (λ k. replicate k 0) d
 
 -- The body of each kind.
-pub schedule_body : (at h : ℕ) (row : Schedule) (b : List ℕ) → length b ≡ 48 → body_fault 1 at b ≡ None → words (row_figures row) ≡ take 24 b → body (Scheduled h row) ≡ b
+pub schedule_body : (at h : ℕ) (row : Row) (b : List ℕ) → length b ≡ 48 → body_fault 1 at b ≡ None → words (row_figures row) ≡ take 24 b → body (Scheduled h row) ≡ b
 unfolding body
 schedule_body at h row b n e f = ap (λ x. x ++ replicate 24 0) f ∙ ap (λ x. take 24 b ++ x) (sym (drop_zero 24 24 (at + 24) b n e)) ∙ take-append-drop 24 b
 
@@ -88,27 +104,3 @@ posting_body at h k v b n e p f =
     let l : length (drop 4 b) ≤ 44 = (let y = length-drop 4 b in omega arith) in
     let w : words (record_figures v) ≡ drop 4 b = f ∙ take_all 44 (drop 4 b) l in
     ap (λ x. (half v.seconds ++ v.flags ∷ []) ++ 0 ∷ x) w ∙ ap (λ x. x ++ 0 ∷ drop 4 b) p ∙ ap (λ x. take 3 b ++ (x ++ drop 4 b)) (sym z) ∙ ap (λ x. take 3 b ++ x) (sym d3) ∙ take-append-drop 3 b
-
--- Where a fault would stand makes no difference to whether there is one.
-zeros_anywhere : (p q : ℕ) (bs : List ℕ) → not_zero p bs ≡ None → not_zero q bs ≡ None
-zeros_anywhere p q [] e = refl
-zeros_anywhere p q (b ∷ bs) e =
-    let h = passed (eqb b 0) _ _ e in
-    let r = zeros_anywhere (p + 1) (q + 1) bs h.1 in
-    rw h.0 r
-
-cond_both : {A : Type 0} (s : Bool) (x y x' y' z : A) → (x ≡ z → x' ≡ z) → (y ≡ z → y' ≡ z) → cond s x y ≡ z → cond s x' y' ≡ z
-cond_both true x y x' y' z f g e = f e
-cond_both false x y x' y' z f g e = g e
-
-pub key_anywhere : (p q : ℕ) (l : List ℕ) → key_fault p l ≡ None → key_fault q l ≡ None
-key_anywhere p q l e =
-    let h = passed (is_kind_byte (get_or l 0 0)) _ _ e in
-    rw h.0 (cond_both (names_slot (get_or l 0 0)) _ _ _ _ None (zeros_anywhere (p + 3) (q + 3) (take 1 (drop 3 l))) (zeros_anywhere (p + 2) (q + 2) (take 2 (drop 2 l))) h.1)
-
-pub body_anywhere : (kind p q : ℕ) (b : List ℕ) → body_fault kind p b ≡ None → body_fault kind q b ≡ None
-body_anywhere kind p q b e =
-    cond_both (eqb kind 1) _ _ _ _ None (zeros_anywhere (p + 24) (q + 24) (take 24 (drop 24 b)))
-    (cond_both (eqb kind 2) _ _ _ _ None (zeros_anywhere (p + 3) (q + 3) (take 1 (drop 3 b)))
-    (cond_both (eqb kind 4) _ _ _ _ None (zeros_anywhere (p + 4) (q + 4) (take 44 (drop 4 b)))
-    (zeros_anywhere p q (take 48 b)))) e

@@ -1,8 +1,8 @@
 -- Whole files: read so far, read, and written.
 use Rattle.std.proofs.Common.{◌≡◌, ℕ, suc, ◌+◌, ◌-◌, ◌*◌, ◌<◌, ◌≤◌, cond, List, [], ◌∷◌, ◌++◌, length, get_or, take, drop, is_ok, IsErrAnd, Some, None, Ok, Err, Result, sym, refl, ap, ◌∙◌, subst, arith, MatchResult}
-use Rattle.std.specs.List.{flat_map, AllByRecursion as All}
+use Rattle.std.specs.List.{flat_map, All}
 use Rattle.std.proofs.lemmas.List.{take_all, length-drop, length_push, drop_more, take-append-drop, drop-drop}
-use Rattle.std.proofs.ByRecursion.{All-push}
+use Rattle.std.proofs.lemmas.List.Elements.{All-nil, All-push}
 use Rattle.settlement.specs.Rulings.{first}
 use Rattle.book.specs.declared.calls.Change.{Change}
 use Rattle.book.specs.declared.calls.Change.TheVariants.{Scheduled, Posted, Withdrawn, Read, Unread}
@@ -16,7 +16,7 @@ use Rattle.day_file.specs.Refusals.{key_fault, body_fault, entry_fault, entries_
 use Rattle.day_file.specs.Reading.{FileOf, Told}
 use Rattle.day_file.proofs.Bytes.{Small, four_at, half_back}
 use Rattle.day_file.proofs.Headers.{opened}
-use Rattle.day_file.proofs.Entries.{length-key, length-body, joined_read}
+use Rattle.day_file.proofs.Parts.{read_more}
 
 -- What a call is written as has no fault.
 pub call_clear : (k b : ℕ) (c : Change) → first (key_fault k (key c)) (body_fault (get_or (key c) 0 0) b (body c)) ≡ None
@@ -55,14 +55,14 @@ pub record SoFar (bytes : List ℕ) (n i : ℕ) (calls : List Change) : Type 0 w
 
 pub SoFar_none : (bytes : List ℕ) (n : ℕ) (calls : List Change) → calls ≡ [] → SoFar bytes n 0 calls
 SoFar_none bytes n calls e =
-    subst (SoFar bytes n 0) (sym e) (record { many = refl; keys = refl; bodies = refl; rest = same_entries bytes (omega arith) refl (omega arith); fit = tt })
+    subst (SoFar bytes n 0) (sym e) (record { many = refl; keys = refl; bodies = refl; rest = same_entries bytes (omega arith) refl (omega arith); fit = All-nil Fit })
 
 module _ (bytes : List ℕ) (n i : ℕ) (calls : List Change) (long : length bytes ≡ 6 + 52 * n) (lt : i < n) (s : SoFar bytes n i calls) where
   pub so_far_more : (c : Change) → key c ≡ take 4 (drop (6 + 4 * i) bytes) → body c ≡ take 48 (drop (6 + 4 * n + 48 * i) bytes) → Fit c → SoFar bytes n (i + 1) (calls ++ c ∷ [])
   so_far_more c p q f = record {
     many = length_push calls c ∙ ap (λ m. m + 1) s.many;
-    keys = joined_read key 4 length-key calls c (4 * i) (4 * (i + 1)) (drop 6 bytes) (take 4 (drop (6 + 4 * i) bytes)) s.keys p (ap (take 4) (sym (drop-drop (4 * i) 6 bytes))) (omega arith);
-    bodies = joined_read body 48 length-body calls c (48 * i) (48 * (i + 1)) (drop (6 + 4 * n) bytes) (take 48 (drop (6 + 4 * n + 48 * i) bytes)) s.bodies q (ap (take 48) (sym (drop-drop (48 * i) (6 + 4 * n) bytes))) (omega arith);
+    keys = read_more key calls c (4 * i) 4 (4 * (i + 1)) (drop 6 bytes) s.keys (p ∙ ap (take 4) (sym (drop-drop (4 * i) 6 bytes))) (omega arith);
+    bodies = read_more body calls c (48 * i) 48 (48 * (i + 1)) (drop (6 + 4 * n) bytes) s.bodies (q ∙ ap (take 48) (sym (drop-drop (48 * i) (6 + 4 * n) bytes))) (omega arith);
     rest = sym (same_entries bytes {n' = suc (n - (i + 1))} (omega arith) refl refl ∙ entries_step bytes (n - (i + 1)) (6 + 4 * i) (6 + 4 * n + 48 * i) (entry_clear bytes (6 + 4 * i) (6 + 4 * n + 48 * i) c (omega arith) p q) ∙ same_entries bytes refl (omega arith) (omega arith)) ∙ s.rest;
     fit = All-push Fit calls c s.fit f;
   }

@@ -1,6 +1,7 @@
 -- What a header that is not refused tells.
-use Rattle.std.proofs.Common.{◌≡◌, ℕ, ◌+◌, ◌*◌, ◌≤◌, true, eqb, leb, List, [], ◌∷◌, length, get_or, None, arith}
-use Rattle.std.specs.List.{AllByRecursion as All}
+use Rattle.std.proofs.Common.{◌≡◌, ℕ, ◌+◌, ◌*◌, ◌≤◌, true, eqb, leb, List, length, get_or, None, arith}
+use Rattle.std.specs.List.{All}
+use Rattle.std.proofs.lemmas.Bool.{leb-true, le-leb, eqb-true, eq-eqb}
 use Rattle.std.proofs.lemmas.Bool.Decides.{nat_tests}
 use Rattle.settlement.proofs.Rulings.{passed, neither}
 use Rattle.book.specs.declared.calls.Change.{Change}
@@ -21,28 +22,15 @@ header_right h e = record { shortest = grind (arith, nat_tests); longest = grind
 pub right_header : (h : Header) → Right h → header_fault h ≡ None
 right_header h r = grind (arith, nat_tests)
 
-leb_is : (m n : ℕ) → leb m n ≡ true → m ≤ n
-leb_is m n e = grind (arith, nat_tests)
-
-is_leb : (m n : ℕ) → m ≤ n → leb m n ≡ true
-is_leb m n e = grind (arith, nat_tests)
-
-eqb_is : (m n : ℕ) → eqb m n ≡ true → m ≡ n
-eqb_is m n e = grind (arith, nat_tests)
-
-is_eqb : (m n : ℕ) → m ≡ n → eqb m n ≡ true
-is_eqb m n e = grind (arith, nat_tests)
-
 both : (calls : List Change) → All FitKey calls → All FitFigures calls → All Fit calls
-both [] k f = tt
-both (c ∷ calls) k f = ((k.0, f.0), both calls k.1 f.1)
+both calls k f = λ i d h. (k i d h, f i d h)
 
 pub writable : (h : Header) (calls : List Change) (room : ℕ) → write_fault h (length calls) room ≡ None → All FitKey calls → All FitFigures calls → Valid h calls
 writable h calls room e k f =
     let p = neither (header_fault h) _ e in
     let q = passed (leb (length calls) 1000) _ _ p.1 in
     let r = header_right h p.0 in
-    record { shortest = r.shortest; longest = r.longest; editions = r.editions; regions = r.regions; few = leb_is (length calls) 1000 q.0; fit = both calls k f }
+    record { shortest = r.shortest; longest = r.longest; editions = r.editions; regions = r.regions; few = leb-true (length calls) 1000 q.0; fit = both calls k f }
 
 -- A file's header and length, not refused.
 pub record Opened (bytes : List ℕ) : Type 0 where
@@ -58,13 +46,13 @@ opened bytes e =
     let z = passed (eqb (get_or bytes 3 0) 0) _ _ q.1 in
     let n = passed (leb (count_in bytes) 1000) _ _ z.1 in
     let l = passed (eqb (length bytes) (6 + 52 * count_in bytes)) _ _ n.1 in
-    record { right = header_right (header_in bytes) q.0; nought = eqb_is _ _ z.0; few = leb_is _ _ n.0; long = eqb_is _ _ l.0 }
+    record { right = header_right (header_in bytes) q.0; nought = eqb-true _ _ z.0; few = leb-true _ _ n.0; long = eqb-true _ _ l.0 }
 
 pub opens : (bytes : List ℕ) → Opened bytes → opening_fault bytes ≡ None
 opens bytes o =
-    let l : leb 6 (length bytes) ≡ true = is_leb 6 (length bytes) (omega (arith, o.long)) in
+    let l : leb 6 (length bytes) ≡ true = le-leb 6 (length bytes) (omega (arith, o.long)) in
     let h = right_header (header_in bytes) o.right in
-    let z = is_eqb (get_or bytes 3 0) 0 o.nought in
-    let n = is_leb (count_in bytes) 1000 o.few in
-    let m = is_eqb (length bytes) (6 + 52 * count_in bytes) o.long in
+    let z = eq-eqb (get_or bytes 3 0) 0 o.nought in
+    let n = le-leb (count_in bytes) 1000 o.few in
+    let m = eq-eqb (length bytes) (6 + 52 * count_in bytes) o.long in
     rw (l, h, z, n, m)

@@ -1,4 +1,5 @@
 pub mod Bytes
+pub mod Parts
 pub mod Zeros
 pub mod Bodies
 pub mod Entries

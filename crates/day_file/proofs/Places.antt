@@ -1,13 +1,13 @@
--- Entries read from their places in a file.
-use Rattle.std.proofs.Common.{◌≡◌, ℕ, ◌+◌, ◌-◌, ◌≤◌, List, [], ◌∷◌, length, get_or, take, drop, IsErrAnd, Some, None, Ok, Err, Option, Result, sym, ap, ◌∙◌, arith, MatchResult}
+-- What is told of an entry.
+use Rattle.std.proofs.Common.{◌≡◌, ℕ, List, get_or, IsErrAnd, Some, None, Ok, Err, Option, Result, sym, ap, ◌∙◌, MatchResult}
 use Rattle.std.specs.Result.{result_and}
-use Rattle.std.proofs.lemmas.List.{length-take, length-drop}
 use Rattle.settlement.specs.Rulings.{first, ruled}
 use Rattle.settlement.proofs.Rulings.{neither, ruled_ok, ruled_err}
 use Rattle.day_file.specs.declared.faults.FileFault.{FileFault}
-use Rattle.day_file.specs.Refusals.{key_fault, body_fault, entry_fault}
-use Rattle.day_file.proofs.Bytes.{four_at}
-use Rattle.day_file.proofs.Faultless.{key_anywhere, body_anywhere}
+use Rattle.day_file.specs.declared.kind.Kind.{Kind}
+use Rattle.day_file.specs.Kinds.{kind_byte}
+use Rattle.day_file.specs.Refusals.{key_zeros, key_fault, body_fault}
+use Rattle.day_file.proofs.Faultless.{key_of_kind}
 
 -- A refusal that is passed on.
 pub answered : {T : Type 0} (r : Result T FileFault) (P : T → Type 0) (o : Option FileFault) (f : FileFault) → IsErrAnd r (λ y. y ≡ f) → o ≡ Some f → MatchResult r P (λ y. o ≡ Some y)
@@ -19,37 +19,21 @@ pub both_ruled : (a b : Option FileFault) (p q r : Result (Unit {0}) FileFault) 
 both_ruled None b p q r e f g = e ∙ ap (λ x. result_and x q) f ∙ g
 both_ruled (Some x) b p q r e f g = e ∙ ap (λ y. result_and y q) f
 
--- The 48 bytes of a body.
-pub part_is : (bytes : List ℕ) (b : ℕ) → take ((b + 48) - b) (drop b bytes) ≡ take 48 (drop b bytes)
-part_is bytes b = let e : (b + 48) - b ≡ 48 = omega arith in ap (λ m. take m (drop b bytes)) e
+-- What the checks of a key and of a body tell of the whole entry.
+module _ (kind : Kind) (key body : List ℕ) (k b : ℕ) (is : kind_byte kind ≡ get_or key 0 0) (p q r : Result (Unit {0}) FileFault) (e : r ≡ result_and p q) (keyed : p ≡ ruled (key_zeros (kind_byte kind) k key) (tt {0})) (bodied : q ≡ ruled (body_fault (kind_byte kind) b body) (tt {0})) where
+  both : r ≡ ruled (first (key_zeros (kind_byte kind) k key) (body_fault (kind_byte kind) b body)) (tt {0})
+  both = both_ruled (key_zeros (kind_byte kind) k key) (body_fault (kind_byte kind) b body) p q r e keyed bodied
 
-pub length_part : (bytes : List ℕ) (b : ℕ) → b + 48 ≤ length bytes → length (take ((b + 48) - b) (drop b bytes)) ≡ 48
-length_part bytes b h = length-take ((b + 48) - b) (drop b bytes) ∙ (let d = length-drop b bytes in omega arith)
+  pub entry_told : (f : FileFault) → r ≡ Err f → first (key_fault k key) (body_fault (get_or key 0 0) b body) ≡ Some f
+  entry_told f w =
+      ap (λ x. first x (body_fault (get_or key 0 0) b body)) (key_of_kind kind k key is) ∙ ap (λ x. first (key_zeros (kind_byte kind) k key) (body_fault x b body)) (sym is)
+      ∙ ruled_err _ tt f (sym w ∙ both)
 
--- The four bytes of a key.
-abbrev pub key_four : List ℕ → ℕ → List ℕ
-key_four bytes k = get_or bytes k 0 ∷ get_or bytes (k + 1) 0 ∷ get_or bytes (k + 2) 0 ∷ get_or bytes (k + 3) 0 ∷ []
+  clear : r ≡ Ok (tt {0}) → (key_zeros (kind_byte kind) k key ≡ None) × (body_fault (kind_byte kind) b body ≡ None)
+  clear w = neither _ _ (ruled_ok _ tt tt (sym w ∙ both)).0
 
-abbrev Passes : Option FileFault → Type 0
-Passes o = Ok (tt {0}) ≡ ruled o (tt {0})
+  pub key_clear : r ≡ Ok (tt {0}) → key_fault k key ≡ None
+  key_clear w = key_of_kind kind k key is ∙ (clear w).0
 
-abbrev Stops : FileFault → Option FileFault → Type 0
-Stops f o = Err f ≡ ruled o (tt {0})
-
--- What the check of an entry tells of it.
-module _ (bytes : List ℕ) (k b : ℕ) (h : k + 4 ≤ length bytes) where
-  abbrev checked : Option FileFault
-  checked = first (key_fault k (key_four bytes k)) (body_fault (get_or bytes k 0) b (take ((b + 48) - b) (drop b bytes)))
-
-  entry_is : entry_fault bytes k b ≡ checked
-  entry_is =
-      ap (λ x. first (key_fault k x) (body_fault (get_or bytes k 0) b (take 48 (drop b bytes)))) (four_at bytes k h) ∙ ap (λ x. first (key_fault k (key_four bytes k)) (body_fault (get_or bytes k 0) b x)) (sym (part_is bytes b))
-
-  pub entry_stops : (f : FileFault) → Stops f checked → entry_fault bytes k b ≡ Some f
-  entry_stops f e = entry_is ∙ ruled_err checked tt f e
-
-  pub key_passes : Passes checked → key_fault 0 (key_four bytes k) ≡ None
-  key_passes g = key_anywhere k 0 (key_four bytes k) (neither (key_fault k (key_four bytes k)) _ (ruled_ok checked tt tt g).0).0
-
-  pub body_passes : Passes checked → body_fault (get_or bytes k 0) 0 (take ((b + 48) - b) (drop b bytes)) ≡ None
-  body_passes g = body_anywhere (get_or bytes k 0) b 0 (take ((b + 48) - b) (drop b bytes)) (neither (key_fault k (key_four bytes k)) _ (ruled_ok checked tt tt g).0).1
+  pub body_clear : r ≡ Ok (tt {0}) → body_fault (kind_byte kind) b body ≡ None
+  body_clear w = (clear w).1

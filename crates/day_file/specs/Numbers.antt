@@ -1,6 +1,7 @@
 -- Numbers as bytes, the high byte first.
-use Rattle.std.specs.Prelude.{ℕ, ◌/◌, ◌%◌, List, [], ◌∷◌, ◌++◌, ℤ}
+use Rattle.std.specs.Prelude.{ℕ, ◌/◌, ◌%◌, List, [], ◌∷◌, ℤ}
 use Rattle.std.specs.Int.{w32}
+use Rattle.std.specs.List.{flat_map}
 use Rattle.std.proofs.Common.{of_z}
 
 -- A number below 2 ^ 16, in two bytes.
@@ -17,5 +18,4 @@ word z = quad (of_z w32 z)
 
 -- Signed numbers, one after another.
 unfoldable pub words : List ℤ → List ℕ
-words [] = []
-words (z ∷ zs) = word z ++ words zs
+words zs = flat_map word zs

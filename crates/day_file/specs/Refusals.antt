@@ -19,10 +19,13 @@ is_kind_byte kind = cond (nat_le 1 kind) (nat_le kind 5) false
 abbrev pub names_slot : ℕ → Bool
 names_slot kind = cond (kind == 2) true (kind == 3)
 
+-- What a key has no use for must be zero: the last byte, and the slot's where its kind names none.
+abbrev pub key_zeros : ℕ → ℕ → List ℕ → Option FileFault
+key_zeros kind place key = cond (names_slot kind) (not_zero (place + 3) (take 1 (drop 3 key))) (not_zero (place + 2) (take 2 (drop 2 key)))
+
 -- A key at a place: its kind first, then the bytes that must be zero.
 abbrev pub key_fault : ℕ → List ℕ → Option FileFault
-key_fault place key =
-    unless (is_kind_byte (slice_index key 0)) (Kind place) (cond (names_slot (slice_index key 0)) (not_zero (place + 3) (take 1 (drop 3 key))) (not_zero (place + 2) (take 2 (drop 2 key))))
+key_fault place key = unless (is_kind_byte (slice_index key 0)) (Kind place) (key_zeros (slice_index key 0) place key)
 
 -- A body at a place: what its kind has no figures for must be zero.
 abbrev pub body_fault : ℕ → ℕ → List ℕ → Option FileFault

@@ -1,7 +1,7 @@
 -- Which days have a file.
 use Rattle.std.specs.Prelude.{◌^◌, ◌<◌, ◌≤◌, List, length, FitsSigned}
 use Rattle.std.specs.Int.{w32}
-use Rattle.std.specs.List.{AllByRecursion}
+use Rattle.std.specs.List.{All}
 use Rattle.settlement.specs.declared.figures.Interval.{Interval}
 use Rattle.book.specs.declared.calls.Change.{Change}
 use Rattle.book.specs.declared.calls.Change.TheVariants.{Scheduled, Posted, Withdrawn, Read, Unread}
@@ -10,15 +10,15 @@ use Rattle.day_file.specs.Encode.{key, row_figures, record_figures}
 
 -- The numbers of a record are such as their types have.
 abbrev pub FitRecord : Interval → Type 0
-FitRecord v = (v.seconds < 2 ^ 16) × (v.flags < 2 ^ 8) × AllByRecursion (FitsSigned w32) (record_figures v)
+FitRecord v = (v.seconds < 2 ^ 16) × (v.flags < 2 ^ 8) × All (FitsSigned w32) (record_figures v)
 
 -- Hour and slot are bytes.
 abbrev pub FitKey : Change → Type 0
-FitKey c = AllByRecursion (λ b. b < 2 ^ 8) (key c)
+FitKey c = All (λ b. b < 2 ^ 8) (key c)
 
 -- The figures of a call are such as their types have. They may lie outside the limits of a statement.
 abbrev pub FitFigures : Change → Type 0
-FitFigures (Scheduled hour row) = AllByRecursion (FitsSigned w32) (row_figures row)
+FitFigures (Scheduled hour row) = All (FitsSigned w32) (row_figures row)
 FitFigures (Posted hour slot interval) = FitRecord interval
 FitFigures (Withdrawn hour slot) = Unit {0}
 FitFigures (Read hour kwh) = FitsSigned w32 kwh
@@ -35,4 +35,4 @@ pub record Valid (h : Header) (calls : List Change) : Type 0 where
   pub editions : h.edition ≤ 1
   pub regions : h.region ≤ 1
   pub few : length calls ≤ 1000
-  pub fit : AllByRecursion Fit calls
+  pub fit : All Fit calls

@@ -1,7 +1,7 @@
 // Why a day file, memory for one, or what one of its entries asks is refused.
 ghost use Rattle.std.specs.Prelude.{◌≡◌};
 ghost use Rattle.day_file.specs.declared.faults.FileFault.TheVariants.{InStatement};
-ghost use Rattle.day_file.specs.Faults.{in_file, report as report_of, place as place_of};
+ghost use Rattle.day_file.specs.Faults.{report as report_of, place as place_of};
 
 use book::{Fault, Layer, Report};
 
@@ -30,30 +30,25 @@ impl From<Fault> for FileFault {
     }
 }
 
-// What is told of a fault that the file's own layer found: it names no hour and no slot.
-fn tell(number: u8) -> Report
-    ensures { result ≡ in_file number }
-{
-    Report {
-        layer: Layer::File,
-        number,
-        hour: 0,
-        slot: 0,
-    }
-}
-
 impl FileFault {
     // Its layer, number, hour and slot; those of the statement's fault are passed on.
     pub fn report(self) -> Report
         ensures { result ≡ report_of self }
     {
-        match self {
-            FileFault::Length(_) => tell(16),
-            FileFault::Header(_) => tell(17),
-            FileFault::Kind(_) => tell(18),
-            FileFault::NotZero(_) => tell(19),
-            FileFault::Room(_) => tell(20),
-            FileFault::InStatement(fault) => fault.report(),
+        let number = match self {
+            FileFault::Length(_) => 16,
+            FileFault::Header(_) => 17,
+            FileFault::Kind(_) => 18,
+            FileFault::NotZero(_) => 19,
+            FileFault::Room(_) => 20,
+            FileFault::InStatement(fault) => return fault.report(),
+        };
+        // The file's own layer names no hour and no slot.
+        Report {
+            layer: Layer::File,
+            number,
+            hour: 0,
+            slot: 0,
         }
     }
 
@@ -62,11 +57,11 @@ impl FileFault {
         ensures { result ≡ place_of self }
     {
         match self {
-            FileFault::Length(place) => place,
-            FileFault::Header(place) => place,
-            FileFault::Kind(place) => place,
-            FileFault::NotZero(place) => place,
-            FileFault::Room(place) => place,
+            FileFault::Length(place)
+            | FileFault::Header(place)
+            | FileFault::Kind(place)
+            | FileFault::NotZero(place)
+            | FileFault::Room(place) => place,
             FileFault::InStatement(_) => 0,
         }
     }

@@ -18,7 +18,7 @@ impl Header {
     fn check(&self) -> Result<(), FileFault>
         ensures { result ≡ ruled (header_fault self.now) tt }
     {
-        if self.hours < 23 || self.hours > 25 {
+        if !(23..=25).contains(&self.hours) {
             return Err(FileFault::Header(0));
         }
         if self.edition > 1 {
@@ -43,19 +43,19 @@ pub(crate) fn file_length(entries: usize) -> usize
 pub(crate) fn open(bytes: &[u8]) -> Result<(Header, usize), FileFault>
     ensures { result ≡ ruled (opening_fault bytes.now) (header_in bytes.now, count_in bytes.now) }
 {
-    if bytes.len() < HEADER {
+    let Some(&[hours, edition, region, zero, high, low]) = bytes.first_chunk::<HEADER>() else {
         return Err(FileFault::Length(bytes.len()));
-    }
+    };
     let header = Header {
-        hours: bytes[0],
-        edition: bytes[1],
-        region: bytes[2],
+        hours,
+        edition,
+        region,
     };
     header.check()?;
-    if bytes[3] != 0 {
+    if zero != 0 {
         return Err(FileFault::Header(3));
     }
-    let entries = u16::from_be_bytes([bytes[4], bytes[5]]) as usize;
+    let entries = u16::from_be_bytes([high, low]) as usize;
     if entries > MOST_ENTRIES {
         return Err(FileFault::Header(4));
     }

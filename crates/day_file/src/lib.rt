@@ -5,6 +5,8 @@ mod day;
 mod entry;
 mod faults;
 mod header;
+mod kind;
+mod laying;
 mod numbers;
 mod reading;
 mod writing;

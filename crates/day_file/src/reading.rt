@@ -20,6 +20,7 @@ fn read_calls(heap: Global, bytes: &[u8], entries: usize) -> Result<Vec<Change>,
 {
     let mut calls = Vec::with_capacity(heap, entries)?;
     let bodies = HEADER + KEY * entries;
+    // A fault tells its place in the file, so the places are counted.
     for i in 0..entries {
         let call = entry_at(bytes, HEADER + KEY * i, bodies + BODY * i)?;
         calls.push(call)?;

@@ -1,42 +1,50 @@
 // Writing a day file.
-ghost use Rattle.std.specs.Prelude.{◌≡◌, ◌*◌, ◌^◌, ◌<◌, [], ◌∷◌, ◌++◌, length, MatchResult, FitsSigned};
+ghost use Rattle.std.specs.Prelude.{◌≡◌, ◌^◌, ◌<◌, ◌≤◌, [], ◌∷◌, ◌++◌, length, MatchResult, FitsSigned};
 ghost use Rattle.std.specs.Int.{w32};
-ghost use Rattle.std.specs.List.{flat_map, AllByRecursion};
-ghost use Rattle.day_file.specs.Encode.{record_body, row_figures, padded};
-ghost use Rattle.day_file.specs.Encode.{key as key_bytes, body as body_bytes};
+ghost use Rattle.std.specs.List.{All};
+ghost use Rattle.day_file.specs.Encode.{row_figures};
+ghost use Rattle.day_file.specs.Encode.{key as key_bytes, body as body_bytes, record_body as record_bytes, padded as padded_bytes};
+ghost use Rattle.day_file.specs.Kinds.{kind_byte};
 ghost use Rattle.day_file.specs.Numbers.{half};
 ghost use Rattle.day_file.specs.Valid.{FitRecord, FitKey, FitFigures};
 ghost use Rattle.day_file.specs.Writing.{Written, Unwritten};
 
 use crate::day::Header;
-use crate::entry;
 use crate::entry::{BODY, KEY};
 use crate::faults::FileFault;
 use crate::header::{HEADER, check_writing, file_length};
-use crate::numbers::{put_padded, put_words};
+use crate::kind::Kind;
+use crate::laying::{Laid, lay};
 use book::Change;
 use settlement::{Interval, Schedule};
 
-// The four bytes of a key.
-fn key(kind: u8, hour: u8, slot: u8) -> [u8; 4]
-    ensures bytes { result ≡ kind ∷ hour ∷ slot ∷ 0 ∷ [] }
-    ensures fit { AllByRecursion (λ b. b < 2 ^ 8) result }
-{
-    [kind, hour, slot, 0]
+// The key of a call. Where it names no slot, that byte is zero.
+impl Laid<KEY> for Change {
+    ghost laid = { key_bytes };
+
+    ghost Fits = { FitKey };
+
+    fn bytes(self) -> [u8; KEY] {
+        let (kind, hour, slot) = match self {
+            Change::Scheduled { hour, .. } => (Kind::Schedule, hour, 0),
+            Change::Posted { hour, slot, .. } => (Kind::Posting, hour, slot),
+            Change::Withdrawn { hour, slot } => (Kind::Withdrawal, hour, slot),
+            Change::Read { hour, .. } => (Kind::Reading, hour, 0),
+            Change::Unread { hour } => (Kind::ReadingWithdrawn, hour, 0),
+        };
+        [kind.into(), hour, slot, 0]
+    }
 }
 
-// The key of a call. Where it names no slot, that byte is zero.
-fn key_of(call: &Change) -> [u8; 4]
-    ensures bytes { result ≡ key_bytes call.now }
-    ensures fit { FitKey call.now }
+// Signed numbers, and zeros behind them.
+fn padded(numbers: &[i32]) -> [u8; BODY]
+    requires { length numbers.now ≤ 12 }
+    ensures laid { result ≡ padded_bytes numbers.now }
+    ensures fit { All (FitsSigned w32) numbers.now }
 {
-    match *call {
-        Change::Scheduled { hour, .. } => key(entry::SCHEDULE, hour, 0),
-        Change::Posted { hour, slot, .. } => key(entry::POSTING, hour, slot),
-        Change::Withdrawn { hour, slot } => key(entry::WITHDRAWAL, hour, slot),
-        Change::Read { hour, .. } => key(entry::READING, hour, 0),
-        Change::Unread { hour } => key(entry::READING_WITHDRAWN, hour, 0),
-    }
+    let mut body = [0; BODY];
+    lay(&mut body[..4 * numbers.len()], numbers);
+    body
 }
 
 // The first four bytes of a record.
@@ -48,13 +56,13 @@ fn front(seconds: u16, flags: u8) -> [u8; 4]
     [high, low, flags, 0]
 }
 
-// Writes an interval's record into a body.
-fn put_record(out: &mut [u8], v: &Interval)
-    requires { length out.old ≡ 48 }
-    ensures bytes { out.new ≡ record_body v.now }
+// An interval's record.
+fn record_body(v: &Interval) -> [u8; BODY]
+    ensures laid { result ≡ record_bytes v.now }
     ensures fit { FitRecord v.now }
 {
-    out[..4].copy_from_slice(&front(v.seconds, v.flags));
+    let mut record = [0; BODY];
+    record[..4].copy_from_slice(&front(v.seconds, v.flags));
     let figures = [
         v.average,
         v.limits.rtd,
@@ -68,60 +76,38 @@ fn put_record(out: &mut [u8], v: &Interval)
         v.reserve.east,
         v.reserve.west,
     ];
-    put_words(&mut out[4..48], &figures);
+    lay(&mut record[4..], &figures);
+    record
 }
 
-// Writes a schedule row into a body.
-fn put_row(out: &mut [u8], row: &Schedule)
-    requires { length out.old ≡ 48 }
-    ensures bytes { out.new ≡ padded (row_figures row.now) }
-    ensures fit { AllByRecursion (FitsSigned w32) (row_figures row.now) }
+// A schedule row.
+fn row_body(row: &Schedule) -> [u8; BODY]
+    ensures laid { result ≡ padded_bytes (row_figures row.now) }
+    ensures fit { All (FitsSigned w32) (row_figures row.now) }
 {
-    let figures = [
+    padded(&[
         row.generation,
         row.transactions,
         row.spin,
         row.prices.energy,
         row.prices.loss,
         row.prices.congestion,
-    ];
-    put_padded(out, &figures);
+    ])
 }
 
-// Writes a call's figures into a body. What has no figures is all zeros.
-fn put_body(out: &mut [u8], call: &Change)
-    requires { length out.old ≡ 48 }
-    ensures bytes { out.new ≡ body_bytes call.now }
-    ensures fit { FitFigures call.now }
-{
-    match *call {
-        Change::Scheduled { row, .. } => put_row(out, &row),
-        Change::Posted { interval, .. } => put_record(out, &interval),
-        Change::Withdrawn { .. } => put_padded(out, &[]),
-        Change::Read { kwh, .. } => put_padded(out, &[kwh]),
-        Change::Unread { .. } => put_padded(out, &[]),
-    }
-}
+// The body of a call: its figures. What has none is all zeros.
+impl Laid<BODY> for Change {
+    ghost laid = { body_bytes };
 
-// Writes the keys of calls, one after another.
-fn put_keys(out: &mut [u8], calls: &[Change])
-    requires { length out.old ≡ 4 * length calls.now }
-    ensures bytes { out.new ≡ flat_map key_bytes calls.now }
-    ensures fit { AllByRecursion FitKey calls.now }
-{
-    for (i, call) in calls.iter().enumerate() {
-        out[KEY * i..KEY * i + KEY].copy_from_slice(&key_of(call));
-    }
-}
+    ghost Fits = { FitFigures };
 
-// Writes the bodies of calls, one after another.
-fn put_bodies(out: &mut [u8], calls: &[Change])
-    requires { length out.old ≡ 48 * length calls.now }
-    ensures bytes { out.new ≡ flat_map body_bytes calls.now }
-    ensures fit { AllByRecursion FitFigures calls.now }
-{
-    for (i, call) in calls.iter().enumerate() {
-        put_body(&mut out[BODY * i..BODY * i + BODY], call);
+    fn bytes(self) -> [u8; BODY] {
+        match self {
+            Change::Scheduled { row, .. } => row_body(&row),
+            Change::Posted { interval, .. } => record_body(&interval),
+            Change::Read { kwh, .. } => padded(&[kwh]),
+            Change::Withdrawn { .. } | Change::Unread { .. } => padded(&[]),
+        }
     }
 }
 
@@ -134,8 +120,8 @@ pub fn write(header: &Header, calls: &[Change], out: &mut [u8]) -> Result<usize,
     let [high, low] = (n as u16).to_be_bytes();
     let bodies = HEADER + KEY * n;
     let end = file_length(n);
-    out[0..HEADER].copy_from_slice(&[header.hours, header.edition, header.region, 0, high, low]);
-    put_keys(&mut out[HEADER..bodies], calls);
-    put_bodies(&mut out[bodies..end], calls);
+    out[..HEADER].copy_from_slice(&[header.hours, header.edition, header.region, 0, high, low]);
+    lay::<KEY, _>(&mut out[HEADER..bodies], calls);
+    lay::<BODY, _>(&mut out[bodies..end], calls);
     Ok(end)
 }

@@ -2,18 +2,12 @@
 use Rattle.std.proofs.Common.{◌≡◌, ℕ, zero, suc, ◌+◌, ◌≤◌, List, [], ◌∷◌, ◌++◌, length, take, drop, sym, refl, ap, ◌∙◌, arith}
 use Rattle.std.specs.List.{range_with_len, flat_map}
 use Rattle.std.proofs.lemmas.List.FromFn.{map-range_with_len_more}
-use Rattle.std.proofs.lemmas.List.{append_assoc, append-nil, length-append, length-take, map-id, flat_map_more, take_at, drop-drop, drop_at}
+use Rattle.std.proofs.lemmas.List.{append_assoc, append-nil, length-append, map-id, flat_map_more, take_at, drop-drop, drop_at}
 use Rattle.std.proofs.lemmas.Slice.{drop-append-drop}
 use Rattle.book.specs.declared.figures.Table.{Table}
 use Rattle.book.specs.Lines.{row_at}
-use Rattle.listing.specs.declared.line.Line.{Line}
 use Rattle.listing.specs.Listing.{heading, first_rows, listing, laid}
 use Rattle.listing.specs.Rows.{hour_row, day_row}
-use Rattle.listing.specs.Texts.{text}
-
--- A line is short.
-pub short : (l : Line) → length (text l) ≤ 160
-short l = omega (arith, length-take l.used l.bytes, l.within)
 
 counting_more : (n : ℕ) → range_with_len 0 (n + 1) ≡ range_with_len 0 n ++ (n ∷ [])
 counting_more n =

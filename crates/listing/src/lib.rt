@@ -1,7 +1,6 @@
 // What an owner's terminal prints: the listing of a locked statement, and the lines of what is refused.
 #![tactic(auto)]
 
-mod columns;
 #[cfg(test)]
 mod extremes;
 mod line;

@@ -6,15 +6,10 @@ use crate::rows::{day_row, hour_row};
 use day_file::FileFault;
 use statement::Locked;
 
-const HEADING: &[u8] = b"HOUR,STATE,DAY_AHEAD,ENERGY,LOSS,CONGESTION,SPIN,TOTAL\n";
-
-// The hours of the longest day.
-const HOURS: u8 = 25;
-
 fn heading() -> &'static [u8]
     ensures { result.now ≡ heading_of }
 {
-    HEADING
+    b"HOUR,STATE,DAY_AHEAD,ENERGY,LOSS,CONGESTION,SPIN,TOTAL\n"
 }
 
 // Lays bytes into memory from a place on, touches nothing else, and answers the place after them.
@@ -34,10 +29,10 @@ pub fn listing_length(statement: &Locked) -> usize
 {
     let table = statement.table();
     let mut needed = heading().len();
-    for hour in 0..HOURS {
-        needed += hour_row(hour, &table.rows[hour as usize]).as_bytes().len();
+    for (hour, row) in table.rows.iter().enumerate() {
+        needed += hour_row(hour, row).len();
     }
-    needed + day_row(&table.day).as_bytes().len()
+    needed + day_row(&table.day).len()
 }
 
 // Writes the listing of a statement to the front of `out`, and answers its length. Where `out` is too short, the length
@@ -51,10 +46,8 @@ pub fn list(statement: &Locked, out: &mut [u8]) -> Result<usize, FileFault>
     }
     let table = statement.table();
     let mut at = lay(out, 0, heading());
-    for hour in 0..HOURS {
-        let row = hour_row(hour, &table.rows[hour as usize]);
-        at = lay(out, at, row.as_bytes());
+    for (hour, row) in table.rows.iter().enumerate() {
+        at = lay(out, at, hour_row(hour, row).as_bytes());
     }
-    let day = day_row(&table.day);
-    Ok(lay(out, at, day.as_bytes()))
+    Ok(lay(out, at, day_row(&table.day).as_bytes()))
 }

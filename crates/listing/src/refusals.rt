@@ -22,8 +22,8 @@ pub fn file_line(fault: FileFault) -> Line
     ensures { text result ≡ file_line fault }
 {
     let mut line = Line::headed(b"FILE");
-    line.then_count(fault.report().number as u64);
-    line.then_count(fault.place() as u64);
+    line.then_number(fault.report().number);
+    line.then_number(fault.place());
     line.end();
     line
 }
@@ -34,11 +34,11 @@ pub fn refused_line(entry: u16, fault: FileFault) -> Line
 {
     let report = fault.report();
     let mut line = Line::headed(b"REFUSED");
-    line.then_count(entry as u64);
+    line.then_number(entry);
     line.then_letter(letter(report.layer));
-    line.then_count(report.number as u64);
-    line.then_count(report.hour as u64);
-    line.then_count(report.slot as u64);
+    line.then_number(report.number);
+    line.then_number(report.hour);
+    line.then_number(report.slot);
     line.end();
     line
 }

@@ -1,12 +1,27 @@
 // The lines of a listing below its heading.
-ghost use Rattle.std.specs.Prelude.{◌≡◌};
+ghost use Rattle.std.specs.Prelude.{◌≡◌, ◌<◌};
+ghost use Rattle.listing.specs.Columns.{columns as columns_of};
 ghost use Rattle.listing.specs.Rows.{state_letter, hour_row, day_row};
 ghost use Rattle.listing.specs.Texts.{text};
 
-use crate::columns::Columns;
 use crate::line::Line;
 use book::{DayLine, Row};
-use settlement::State;
+use itoa::Buffer;
+use settlement::{Amounts, State};
+
+// The figures that are listed of an hour or of a day, in cents, in the order of the columns.
+fn columns(ahead: &Amounts, balancing: &Amounts, spin: i64, total: i64) -> [i64; 6]
+    ensures { result ≡ columns_of ahead.now balancing.now spin total }
+{
+    [
+        ahead.total,
+        balancing.energy,
+        balancing.loss,
+        balancing.congestion,
+        spin,
+        total,
+    ]
+}
 
 fn letter(state: State) -> u8
     ensures { result ≡ state_letter state }
@@ -18,15 +33,20 @@ fn letter(state: State) -> u8
 }
 
 // The line of an hour; it is left blank where nothing was sold for the hour, so that the listing has no such row.
-pub(crate) fn hour_row(hour: u8, row: &Row) -> Line
+pub(crate) fn hour_row(hour: usize, row: &Row) -> Line
     ensures { text result ≡ hour_row hour row.now }
 {
     let Some(_) = row.schedule else {
         return Line::blank();
     };
-    let mut line = Line::numbered(hour as u64);
+    let mut line = Line::headed(Buffer::new().format(hour).as_bytes());
     line.then_letter(letter(row.line.state));
-    line.end_with(&Columns::of_hour(&row.line));
+    line.end_with(&columns(
+        &row.line.ahead,
+        &row.line.balancing,
+        row.line.spin,
+        row.line.total,
+    ));
     line
 }
 
@@ -35,7 +55,7 @@ pub(crate) fn day_row(day: &DayLine) -> Line
     ensures { text result ≡ day_row day.now }
 {
     let mut line = Line::headed(b"DAY");
-    line.then_count(day.settled as u64);
-    line.end_with(&Columns::of_day(day));
+    line.then_number(day.settled);
+    line.end_with(&columns(&day.ahead, &day.balancing, day.spin, day.total));
     line
 }

@@ -8,7 +8,7 @@ returns c =
     let e = (ruled_ok _ _ _ c.in_ok-check_writing.ensures).0 in
     record {
       unrefused = e;
-      valid = writable c.args.header.now c.args.calls.now _ e c.put_keys.ensures.fit c.put_bodies.ensures.fit;
+      valid = writable c.args.header.now c.args.calls.now _ e c.lay.ensures.fit c.lay-2.ensures.fit;
       size = c.file_length-end.ensures;
-      bytes = write_is c.args.header.now c.args.calls.now c.to_be_bytes.result c.copy_from_slice.new.self c.put_keys.new.out c.put_bodies.new.out c.args.out.now c.file_length-end.result c.to_be_bytes.ensures c.copy_from_slice.ensures.after c.put_keys.ensures.bytes c.put_bodies.ensures.bytes c.file_length-end.ensures;
+      bytes = write_is c.args.header.now c.args.calls.now c.to_be_bytes.result c.copy_from_slice.new.self c.lay.new.out c.lay-2.new.out c.args.out.now c.file_length-end.result c.to_be_bytes.ensures c.copy_from_slice.ensures.after c.lay.ensures.laid c.lay-2.ensures.laid c.file_length-end.ensures;
     }

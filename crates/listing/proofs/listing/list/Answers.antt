@@ -1,4 +1,4 @@
-use Rattle.std.proofs.Common.{◌≡◌, ◌+◌, ◌++◌, length, sym, ap, ◌∙◌, arith}
+use Rattle.std.proofs.Common.{◌≡◌, ◌+◌, ◌++◌, length, sym, ap, ◌∙◌, arith, rules}
 use Rattle.book.proofs.RowsRead.{row_read}
 use Rattle.listing.specs.Rows.{hour_row}
 use Rattle.listing.specs.Listing.{heading, listing, laid}
@@ -22,7 +22,8 @@ loop-hour-init c =
 pub lay-at-requires-in-loop-hour : goal.lay-at-requires-in-loop-hour
 lay-at-requires-in-loop-hour c =
     let t = c.table-table.result.now in
-    let row = c.as_bytes.ensures ∙ c.hour_row-row.ensures ∙ ap (hour_row c.loop-hour.hour) (row_read t.rows c.loop-hour.hour (omega arith)) in
+    let n : length t.rows ≡ 25 = search rules in
+    let row = c.as_bytes.ensures ∙ c.hour_row.ensures ∙ ap (hour_row c.loop-hour.hour) (row_read t.rows c.loop-hour.hour (omega arith)) in
     let m = length_far_more t c.loop-hour.hour c.loop-hour.at c.as_bytes.result.now c.loop-hour.invariant.0 row in
     omega (arith, far_within t (c.loop-hour.hour + 1) (omega arith), ap (λ x. length (listing x)) c.table-table.ensures, c.listing_length-needed.ensures, c.if-out-needed.false, c.lay-at.auto.out, c.loop-hour.auto.out)
 
@@ -31,7 +32,8 @@ loop-hour-preserved c =
     let t = c.table-table.result.now in
     let so_far = as_far t c.loop-hour.hour in
     let bytes = c.as_bytes.result.now in
-    let row = c.as_bytes.ensures ∙ c.hour_row-row.ensures ∙ ap (hour_row c.loop-hour.hour) (row_read t.rows c.loop-hour.hour (omega arith)) in
+    let n : length t.rows ≡ 25 = search rules in
+    let row = c.as_bytes.ensures ∙ c.hour_row.ensures ∙ ap (hour_row c.loop-hour.hour) (row_read t.rows c.loop-hour.hour (omega arith)) in
     let m = length_far_more t c.loop-hour.hour c.loop-hour.at bytes c.loop-hour.invariant.0 row in (
       c.lay-at-in-loop-hour.ensures.place ∙ m,
       laid_more c.loop-hour.out c.lay-at.new.out c.lay-at-in-loop-hour.new.out bytes so_far c.loop-hour.at c.loop-hour.invariant.0 c.loop-hour.invariant.1 c.lay-at-in-loop-hour.ensures.after
@@ -41,7 +43,7 @@ loop-hour-preserved c =
 pub lay-requires : goal.lay-requires
 lay-requires c =
     let t = c.table-table.result.now in
-    let m = length-listing t c.loop-hour.hour c.loop-hour.at c.as_bytes-2.result.now (omega arith) c.loop-hour.invariant.0 (c.as_bytes-2.ensures ∙ c.day_row-day.ensures) in
+    let m = length-listing t c.loop-hour.hour c.loop-hour.at c.as_bytes-2.result.now (omega arith) c.loop-hour.invariant.0 (c.as_bytes-2.ensures ∙ c.day_row.ensures) in
     omega (arith, ap (λ x. length (listing x)) c.table-table.ensures, c.listing_length-needed.ensures, c.if-out-needed.false, c.lay-at.auto.out, c.loop-hour.auto.out)
 
 pub returns : goal.returns
@@ -49,7 +51,7 @@ returns c =
     let t = c.table-table.result.now in
     let table = c.table-table.ensures in
     let bytes = c.as_bytes-2.result.now in
-    let row = c.as_bytes-2.ensures ∙ c.day_row-day.ensures in
+    let row = c.as_bytes-2.ensures ∙ c.day_row.ensures in
     let end : c.loop-hour.hour ≡ 25 = omega arith in
     let m = length-listing t c.loop-hour.hour c.loop-hour.at bytes end c.loop-hour.invariant.0 row in
     let e = laid_first c.args.out.now c.lay-at.new.out c.heading.result.now c.heading.ensures c.lay-at.ensures.after in
