@@ -25,7 +25,7 @@ fn lay(out: &mut [u8], at: usize, bytes: &[u8]) -> usize
 
 // How long the listing of a statement is.
 pub fn listing_length(statement: &Locked) -> usize
-    ensures { result ≡ length (listing statement.now.table) }
+    ensures { result ≡ length (listing statement.now.sheet.table) }
 {
     let table = statement.table();
     let mut needed = heading().len();
@@ -38,7 +38,7 @@ pub fn listing_length(statement: &Locked) -> usize
 // Writes the listing of a statement to the front of `out`, and answers its length. Where `out` is too short, the length
 // needed is told, and nothing is written.
 pub fn list(statement: &Locked, out: &mut [u8]) -> Result<usize, FileFault>
-    ensures { Laid (listing statement.now.table) out.old result out.new }
+    ensures { Laid (listing statement.now.sheet.table) out.old result out.new }
 {
     let needed = listing_length(statement);
     if out.len() < needed {

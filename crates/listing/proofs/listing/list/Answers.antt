@@ -7,7 +7,7 @@ use Rattle.listing.proofs.listing.list.Goals as goal
 
 pub lay-at-requires : goal.lay-at-requires
 lay-at-requires c =
-    let t = c.args.statement.now.table in
+    let t = c.args.statement.now.sheet.table in
     omega (arith, c.listing_length-needed.ensures, c.if-out-needed.false, far_within t 0 (omega arith), ap length (far_none t), ap length c.heading.ensures)
 
 pub loop-hour-init : goal.loop-hour-init
