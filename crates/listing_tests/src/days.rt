@@ -1,48 +1,11 @@
 use book::Fault;
 use day_file::FileFault;
 use listing::{list, listing_length};
-use record_store::{Lent, Place, Pool, Store};
-use settlement::{Interval, Limits, Newer, Prices, Schedule, SpinPrices};
+use record_store::{Place, Pool, Store};
+use samples::{FIVE_MINUTES, SOLD};
+use settlement::Newer;
 use statement::{Locked, Statement};
 use std::test::Fail;
-
-// Five minutes at 65 MW, settled at what was made.
-const RECORD: Interval = Interval {
-    seconds: 300,
-    flags: 4,
-    average: 65_000,
-    limits: Limits {
-        rtd: 0,
-        agc: 0,
-        energy: 0,
-    },
-    transactions: 0,
-    spin: 0,
-    prices: Prices {
-        energy: 3_365,
-        loss: 172,
-        congestion: 0,
-    },
-    reserve: SpinPrices { east: 0, west: 0 },
-};
-
-// 50 MW sold the day before.
-const ROW: Schedule = Schedule {
-    generation: 50_000,
-    transactions: 0,
-    spin: 0,
-    prices: Prices {
-        energy: 2_525,
-        loss: 306,
-        congestion: -549,
-    },
-};
-
-const PLACE: Place<Interval> = Place {
-    hour: 0,
-    slot: 0,
-    content: RECORD,
-};
 
 const EMPTY_DAY: &[u8] =
     b"HOUR,STATE,DAY_AHEAD,ENERGY,LOSS,CONGESTION,SPIN,TOTAL\nDAY,0,0,0,0,0,0,0\n";
@@ -53,10 +16,10 @@ const TWO_HOURS: &[u8] =
 // A day on which two hours were sold, of which one is settled.
 fn settled_day<S: Store>(store: &mut S) -> Result<Locked, Fault> {
     let mut statement = Statement::open(Newer, 24, 0, store)?;
-    statement.schedule(store, 3, &ROW)?;
-    statement.schedule(store, 10, &ROW)?;
+    statement.schedule(store, 3, &SOLD)?;
+    statement.schedule(store, 10, &SOLD)?;
     for slot in 0..12u8 {
-        statement.post(store, 3, slot, &RECORD)?;
+        statement.post(store, 3, slot, &FIVE_MINUTES)?;
     }
     Ok(statement.lock())
 }
@@ -69,20 +32,16 @@ fn prints(locked: &Locked, out: &mut [u8], expected: &[u8]) -> Result<(), Fail> 
     if &out[..length] != expected {
         return Err(Fail::new("another listing"));
     }
-    for byte in &out[length..] {
-        if *byte != 9 {
-            return Err(Fail::new("written past the listing"));
-        }
+    if out[length..].iter().any(|byte| *byte != 9) {
+        return Err(Fail::new("written past the listing"));
     }
     Ok(())
 }
 
 #[test]
 fn an_empty_day_has_a_heading_and_a_day_row(rt: HostRuntime) -> Result<(), Fail> {
-    let mut places = [PLACE; 24];
-    let pool = Pool::over(Lent {
-        places: &mut places,
-    });
+    let mut places = [Place::default(); 24];
+    let pool = Pool::over(&mut places);
     let Ok(statement) = Statement::open(Newer, 24, 0, &pool) else {
         return Err(Fail::new("not opened"));
     };
@@ -94,10 +53,8 @@ fn an_empty_day_has_a_heading_and_a_day_row(rt: HostRuntime) -> Result<(), Fail>
 
 #[test]
 fn memory_that_is_too_short_is_left_as_it_was(rt: HostRuntime) -> Result<(), Fail> {
-    let mut places = [PLACE; 24];
-    let pool = Pool::over(Lent {
-        places: &mut places,
-    });
+    let mut places = [Place::default(); 24];
+    let pool = Pool::over(&mut places);
     let Ok(statement) = Statement::open(Newer, 24, 0, &pool) else {
         return Err(Fail::new("not opened"));
     };
@@ -109,10 +66,8 @@ fn memory_that_is_too_short_is_left_as_it_was(rt: HostRuntime) -> Result<(), Fai
 
 #[test]
 fn an_hour_that_was_sold_has_a_row() -> Result<(), Fail> {
-    let mut places = [PLACE; 24];
-    let mut pool = Pool::over(Lent {
-        places: &mut places,
-    });
+    let mut places = [Place::default(); 24];
+    let mut pool = Pool::over(&mut places);
     let Ok(locked) = settled_day(&mut pool) else {
         return Err(Fail::new("refused"));
     };

@@ -1,39 +1,46 @@
 use crate::closing_line;
-use crate::figures::{PLACE, RECORD};
-use record_store::{Lent, Pool, Store};
+use record_store::{Place, Pool, Store};
+use samples::FIVE_MINUTES;
 use settlement::Newer;
 use statement::Statement;
 use std::test::Fail;
 
-// The number that an opening is refused by, 0 where it is accepted.
-fn opened<S: Store>(store: &S, hours: u8, region: u8) -> u8 {
+// The number that an opening is refused by.
+fn opened<S: Store>(store: &S, hours: u8, region: u8) -> Option<u8> {
     match Statement::open(Newer, hours, region, store) {
-        Ok(_) => 0,
-        Err(fault) => fault.report().number,
+        Ok(_) => None,
+        Err(fault) => Some(fault.report().number),
     }
 }
 
 #[test]
 fn an_opening_names_the_first_thing_that_is_wrong(rt: HostRuntime) {
-    let mut places = [PLACE; 24];
-    let mut pool = Pool::over(Lent {
-        places: &mut places,
-    });
-    for (hours, region, refused) in [(22, 2, 1), (26, 0, 1), (23, 2, 2), (23, 0, 0), (25, 1, 0)] {
+    let mut places = [Place::default(); 24];
+    let mut pool = Pool::over(&mut places);
+    for (hours, region, refused) in [
+        (22, 2, Some(1)),
+        (26, 0, Some(1)),
+        (23, 2, Some(2)),
+        (23, 0, None),
+        (25, 1, None),
+    ] {
         assert_eq!(rt; opened(&pool, hours, region), refused);
     }
-    let _ = pool.write(24, 23, &RECORD);
-    for (hours, region, refused) in [(22, 2, 1), (24, 2, 2), (24, 0, 3), (25, 1, 3)] {
+    let _ = pool.write(24, 23, &FIVE_MINUTES);
+    for (hours, region, refused) in [
+        (22, 2, Some(1)),
+        (24, 2, Some(2)),
+        (24, 0, Some(3)),
+        (25, 1, Some(3)),
+    ] {
         assert_eq!(rt; opened(&pool, hours, region), refused);
     }
 }
 
 #[test]
 fn a_locked_statement_has_the_lines_of_the_open_one(rt: HostRuntime) -> Result<(), Fail> {
-    let mut places = [PLACE; 24];
-    let mut pool = Pool::over(Lent {
-        places: &mut places,
-    });
+    let mut places = [Place::default(); 24];
+    let mut pool = Pool::over(&mut places);
     match closing_line(&mut pool) {
         Ok(day) => {
             assert_eq!(rt;

@@ -1,15 +1,14 @@
-use crate::figures::{
-    DEAR, ENTRY, PLACE, RECORD, ROW, lasting, post, read, schedule, told, unread, withdraw,
-};
-use book::Call;
-use record_store::{Journal, Lent, Pool, Store};
+use crate::figures::{DEAR, full, lasting, post, read, refused, schedule, told, unread, withdraw};
+use book::{Call, Report};
+use record_store::{Journal, Place, Pool, Store};
+use samples::{FIVE_MINUTES, SOLD};
 use settlement::{Edition, Interval, Newer, Schedule};
 use statement::Statement;
 use std::test::Fail;
 
-// A call, and the layer, number, hour and slot of its refusal.
+// A call, and what is told of its refusal.
 #[derive(Clone, Copy)]
-struct Case(Call, (u8, u8, u8, u8));
+struct Case(Call, Option<Report>);
 
 // Makes the calls in their order, and compares what is told of each answer.
 fn play<E: Edition, S: Store>(
@@ -25,65 +24,59 @@ fn play<E: Edition, S: Store>(
     Ok(())
 }
 
-const DONE: (u8, u8, u8, u8) = (0, 0, 0, 0);
+const DONE: Option<Report> = None;
 
 #[test]
 fn each_refusal_of_a_schedule_row_and_of_a_reading() -> Result<(), Fail> {
-    let mut places = [PLACE; 24];
-    let mut pool = Pool::over(Lent {
-        places: &mut places,
-    });
-    let mut statement = match Statement::open(Newer, 24, 0, &pool) {
-        Ok(statement) => statement,
-        Err(_) => return Err(Fail::new("not opened")),
+    let mut places = [Place::default(); 24];
+    let mut pool = Pool::over(&mut places);
+    let Ok(mut statement) = Statement::open(Newer, 24, 0, &pool) else {
+        return Err(Fail::new("not opened"));
     };
     let bad = Schedule {
         generation: -1,
         prices: DEAR,
-        ..ROW
+        ..SOLD
     };
     play(
         &mut statement,
         &mut pool,
         &[
-            Case(schedule(24, bad), (b'B', 5, 24, 0)),
-            Case(schedule(23, bad), (b'B', 9, 23, 0)),
+            Case(schedule(24, bad), refused(5, 24, 0)),
+            Case(schedule(23, bad), refused(9, 23, 0)),
             Case(
                 schedule(
                     23,
                     Schedule {
                         prices: DEAR,
-                        ..ROW
+                        ..SOLD
                     },
                 ),
-                (b'B', 10, 23, 0),
+                refused(10, 23, 0),
             ),
-            Case(schedule(23, ROW), DONE),
-            Case(read(24, -1), (b'B', 5, 24, 0)),
-            Case(read(23, -1), (b'B', 14, 23, 0)),
-            Case(read(23, 2_000_001), (b'B', 14, 23, 0)),
-            Case(unread(24), (b'B', 5, 24, 0)),
-            Case(unread(23), (b'B', 13, 23, 0)),
+            Case(schedule(23, SOLD), DONE),
+            Case(read(24, -1), refused(5, 24, 0)),
+            Case(read(23, -1), refused(14, 23, 0)),
+            Case(read(23, 2_000_001), refused(14, 23, 0)),
+            Case(unread(24), refused(5, 24, 0)),
+            Case(unread(23), refused(13, 23, 0)),
             Case(read(23, 2_000_000), DONE),
             Case(unread(23), DONE),
-            Case(unread(23), (b'B', 13, 23, 0)),
+            Case(unread(23), refused(13, 23, 0)),
         ],
     )
 }
 
 #[test]
 fn each_refusal_of_a_posting_and_of_a_withdrawal() -> Result<(), Fail> {
-    let mut places = [PLACE; 24];
-    let mut pool = Pool::over(Lent {
-        places: &mut places,
-    });
-    let mut statement = match Statement::open(Newer, 23, 1, &pool) {
-        Ok(statement) => statement,
-        Err(_) => return Err(Fail::new("not opened")),
+    let mut places = [Place::default(); 24];
+    let mut pool = Pool::over(&mut places);
+    let Ok(mut statement) = Statement::open(Newer, 23, 1, &pool) else {
+        return Err(Fail::new("not opened"));
     };
     let dear = Interval {
         prices: DEAR,
-        ..RECORD
+        ..FIVE_MINUTES
     };
     let weak = Interval {
         average: -1,
@@ -98,46 +91,43 @@ fn each_refusal_of_a_posting_and_of_a_withdrawal() -> Result<(), Fail> {
         &mut statement,
         &mut pool,
         &[
-            Case(post(23, 24, brief), (b'B', 5, 23, 24)),
-            Case(post(22, 24, brief), (b'B', 6, 22, 24)),
-            Case(post(22, 1, brief), (b'B', 7, 22, 1)),
-            Case(post(22, 1, flagged), (b'B', 8, 22, 1)),
-            Case(post(22, 1, weak), (b'B', 9, 22, 1)),
-            Case(post(22, 1, dear), (b'B', 10, 22, 1)),
+            Case(post(23, 24, brief), refused(5, 23, 24)),
+            Case(post(22, 24, brief), refused(6, 22, 24)),
+            Case(post(22, 1, brief), refused(7, 22, 1)),
+            Case(post(22, 1, flagged), refused(8, 22, 1)),
+            Case(post(22, 1, weak), refused(9, 22, 1)),
+            Case(post(22, 1, dear), refused(10, 22, 1)),
             Case(post(22, 0, lasting(3_600)), DONE),
-            Case(post(22, 1, lasting(6)), (b'B', 11, 22, 1)),
+            Case(post(22, 1, lasting(6)), refused(11, 22, 1)),
             Case(post(22, 0, lasting(3_599)), DONE),
-            Case(withdraw(23, 24), (b'B', 5, 23, 24)),
-            Case(withdraw(22, 24), (b'B', 6, 22, 24)),
-            Case(withdraw(22, 1), (b'B', 13, 22, 1)),
+            Case(withdraw(23, 24), refused(5, 23, 24)),
+            Case(withdraw(22, 24), refused(6, 22, 24)),
+            Case(withdraw(22, 1), refused(13, 22, 1)),
             Case(withdraw(22, 0), DONE),
-            Case(withdraw(22, 0), (b'B', 13, 22, 0)),
+            Case(withdraw(22, 0), refused(13, 22, 0)),
         ],
     )
 }
 
 #[test]
 fn each_refusal_of_a_question() -> Result<(), Fail> {
-    let mut places = [PLACE; 24];
-    let mut pool = Pool::over(Lent {
-        places: &mut places,
-    });
-    let mut statement = match Statement::open(Newer, 25, 0, &pool) {
-        Ok(statement) => statement,
-        Err(_) => return Err(Fail::new("not opened")),
+    let mut places = [Place::default(); 24];
+    let mut pool = Pool::over(&mut places);
+    let Ok(mut statement) = Statement::open(Newer, 25, 0, &pool) else {
+        return Err(Fail::new("not opened"));
     };
     play(
         &mut statement,
         &mut pool,
         &[
-            Case(Call::AskHour { hour: 25 }, (b'B', 5, 25, 0)),
+            Case(Call::AskHour { hour: 25 }, refused(5, 25, 0)),
             Case(Call::AskHour { hour: 24 }, DONE),
-            Case(Call::AskInterval { hour: 25, slot: 24 }, (b'B', 5, 25, 24)),
-            Case(Call::AskInterval { hour: 24, slot: 24 }, (b'B', 6, 24, 24)),
-            Case(Call::AskInterval { hour: 24, slot: 9 }, (b'B', 13, 24, 9)),
+            Case(Call::AskInterval { hour: 25, slot: 24 }, refused(5, 25, 24)),
+            Case(Call::AskInterval { hour: 24, slot: 24 }, refused(6, 24, 24)),
+            Case(Call::AskInterval { hour: 24, slot: 9 }, refused(13, 24, 9)),
             Case(post(24, 9, lasting(3_600)), DONE),
-            Case(Call::AskInterval { hour: 24, slot: 9 }, (b'B', 15, 24, 9)),
-            Case(schedule(24, ROW), DONE),
+            Case(Call::AskInterval { hour: 24, slot: 9 }, refused(15, 24, 9)),
+            Case(schedule(24, SOLD), DONE),
             Case(Call::AskInterval { hour: 24, slot: 9 }, DONE),
             Case(Call::AskDay, DONE),
         ],
@@ -156,60 +146,51 @@ fn fill<E: Edition, S: Store>(statement: &mut Statement<E>, store: &mut S) -> Re
 
 #[test]
 fn a_full_store_refuses_last() -> Result<(), Fail> {
-    let mut places = [PLACE; 24];
-    let mut pool = Pool::over(Lent {
-        places: &mut places,
-    });
-    let mut statement = match Statement::open(Newer, 24, 0, &pool) {
-        Ok(statement) => statement,
-        Err(_) => return Err(Fail::new("not opened")),
+    let mut places = [Place::default(); 24];
+    let mut pool = Pool::over(&mut places);
+    let Ok(mut statement) = Statement::open(Newer, 24, 0, &pool) else {
+        return Err(Fail::new("not opened"));
     };
     fill(&mut statement, &mut pool)?;
     play(
         &mut statement,
         &mut pool,
         &[
-            Case(post(1, 7, lasting(5)), (b'B', 7, 1, 7)),
-            Case(post(1, 7, RECORD), (b'S', 12, 1, 7)),
+            Case(post(1, 7, lasting(5)), refused(7, 1, 7)),
+            Case(post(1, 7, FIVE_MINUTES), full(1, 7)),
             Case(post(0, 7, lasting(149)), DONE),
             Case(withdraw(0, 7), DONE),
-            Case(post(1, 7, RECORD), DONE),
+            Case(post(1, 7, FIVE_MINUTES), DONE),
         ],
     )
 }
 
 #[test]
 fn a_full_journal_refuses_a_correction_and_a_withdrawal() -> Result<(), Fail> {
-    let mut places = [ENTRY; 24];
-    let mut journal = Journal::over(Lent {
-        places: &mut places,
-    });
-    let mut statement = match Statement::open(Newer, 24, 0, &journal) {
-        Ok(statement) => statement,
-        Err(_) => return Err(Fail::new("not opened")),
+    let mut places = [Place::default(); 24];
+    let mut journal = Journal::over(&mut places);
+    let Ok(mut statement) = Statement::open(Newer, 24, 0, &journal) else {
+        return Err(Fail::new("not opened"));
     };
     fill(&mut statement, &mut journal)?;
     play(
         &mut statement,
         &mut journal,
         &[
-            Case(post(0, 7, lasting(151)), (b'B', 11, 0, 7)),
-            Case(post(0, 7, lasting(149)), (b'S', 12, 0, 7)),
-            Case(withdraw(0, 7), (b'S', 12, 0, 7)),
-            Case(withdraw(1, 7), (b'B', 13, 1, 7)),
+            Case(post(0, 7, lasting(151)), refused(11, 0, 7)),
+            Case(post(0, 7, lasting(149)), full(0, 7)),
+            Case(withdraw(0, 7), full(0, 7)),
+            Case(withdraw(1, 7), refused(13, 1, 7)),
         ],
     )
 }
 
 #[test]
 fn records_that_break_a_limit_are_refused_after_the_hour(rt: HostRuntime) -> Result<(), Fail> {
-    let mut places = [PLACE; 24];
-    let mut pool = Pool::over(Lent {
-        places: &mut places,
-    });
-    let mut statement = match Statement::open(Newer, 24, 0, &pool) {
-        Ok(statement) => statement,
-        Err(_) => return Err(Fail::new("not opened")),
+    let mut places = [Place::default(); 24];
+    let mut pool = Pool::over(&mut places);
+    let Ok(mut statement) = Statement::open(Newer, 24, 0, &pool) else {
+        return Err(Fail::new("not opened"));
     };
     assert!(rt;
         pool.write(3, 0, &lasting(5)).is_ok(),
@@ -219,15 +200,15 @@ fn records_that_break_a_limit_are_refused_after_the_hour(rt: HostRuntime) -> Res
         &mut statement,
         &mut pool,
         &[
-            Case(post(24, 24, lasting(5)), (b'B', 5, 24, 24)),
-            Case(post(3, 24, lasting(5)), (b'B', 3, 3, 24)),
-            Case(schedule(3, ROW), (b'B', 3, 3, 0)),
-            Case(withdraw(3, 0), (b'B', 3, 3, 0)),
-            Case(read(3, -1), (b'B', 3, 3, 0)),
-            Case(unread(3), (b'B', 3, 3, 0)),
-            Case(Call::AskInterval { hour: 3, slot: 1 }, (b'B', 3, 3, 1)),
+            Case(post(24, 24, lasting(5)), refused(5, 24, 24)),
+            Case(post(3, 24, lasting(5)), refused(3, 3, 24)),
+            Case(schedule(3, SOLD), refused(3, 3, 0)),
+            Case(withdraw(3, 0), refused(3, 3, 0)),
+            Case(read(3, -1), refused(3, 3, 0)),
+            Case(unread(3), refused(3, 3, 0)),
+            Case(Call::AskInterval { hour: 3, slot: 1 }, refused(3, 3, 1)),
             Case(Call::AskHour { hour: 3 }, DONE),
-            Case(schedule(4, ROW), DONE),
+            Case(schedule(4, SOLD), DONE),
         ],
     )
 }

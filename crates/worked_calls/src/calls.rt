@@ -1,7 +1,7 @@
 // Lists of calls: an hour from its figures, and a day that is corrected.
-use crate::hours::five_minutes;
 use book::{Answer, Call, Change, Entry};
-use settlement::{Interval, Prices, Schedule, Standing};
+use samples::{FIVE_MINUTES, SOLD};
+use settlement::{Interval, Schedule, Standing};
 use std::alloc::{AllocError, Global};
 
 // The hour that the program's calls are about.
@@ -65,9 +65,9 @@ pub fn hour_log(heap: Global, standing: &Standing) -> Result<Log, AllocError> {
     if let Some(kwh) = standing.reading {
         log.read(kwh)?;
     }
-    for slot in 0..24u8 {
-        if let Some(interval) = standing.records[slot as usize] {
-            log.post(slot, interval)?;
+    for (slot, record) in standing.records.iter().enumerate() {
+        if let Some(interval) = record {
+            log.post(slot as u8, *interval)?;
         }
     }
     for slot in 0..24u8 {
@@ -82,14 +82,14 @@ fn quarter(average: i32) -> Interval {
     Interval {
         seconds: 900,
         average,
-        ..five_minutes()
+        ..FIVE_MINUTES
     }
 }
 
 // An hour whose reading and records are corrected while it is settled and again unsettled.
-pub fn corrected_log(heap: Global, row: Schedule) -> Result<Log, AllocError> {
+pub fn corrected_log(heap: Global) -> Result<Log, AllocError> {
     let mut log = Log::new(heap);
-    log.schedule(HOUR, row)?;
+    log.schedule(HOUR, SOLD)?;
     for (slot, average) in [(0, 52_000), (1, 60_000), (2, 48_000), (3, 40_000)] {
         log.post(slot, quarter(average))?;
     }
@@ -101,28 +101,14 @@ pub fn corrected_log(heap: Global, row: Schedule) -> Result<Log, AllocError> {
     log.post(2, quarter(50_000))?;
     log.post(2, quarter(50_000))?;
     log.ask_interval(2)?;
-    log.post(4, five_minutes())?;
+    log.post(4, FIVE_MINUTES)?;
     log.withdraw(3)?;
     log.withdraw(3)?;
     log.ask_interval(3)?;
     log.ask_interval(0)?;
     log.ask()?;
     log.post(3, quarter(40_000))?;
-    log.schedule(24, row)?;
+    log.schedule(24, SOLD)?;
     log.call(Call::AskDay)?;
     Ok(log)
-}
-
-// What was sold for the corrected hour the day before.
-pub fn sold_row() -> Schedule {
-    Schedule {
-        generation: 50_000,
-        transactions: 0,
-        spin: 0,
-        prices: Prices {
-            energy: 2_525,
-            loss: 306,
-            congestion: -549,
-        },
-    }
 }

@@ -3,14 +3,13 @@
 #![tactic(auto)]
 
 mod calls;
-mod hours;
 mod print;
 
 use book::Entry;
-use calls::{Log, corrected_log, hour_log, sold_row};
-use hours::{five_minutes, operators_hour, shared_hour};
-use print::{print_entry, print_heading, print_refusal, print_told};
-use record_store::{Lent, Place, Pool};
+use calls::{Log, corrected_log, hour_log};
+use print::{print_entry, print_refusal, print_told};
+use record_store::{Place, Pool};
+use samples::{operators_hour, print_heading, shared_hour};
 use settlement::{Edition, Newer, Older, Standing, worked_figures};
 use statement::Statement;
 use std::io;
@@ -22,15 +21,8 @@ fn play<E: Edition + Drop>(
     region: u8,
     log: &mut [Entry],
 ) -> io::Result<()> {
-    let place = Place {
-        hour: 0,
-        slot: 0,
-        content: five_minutes(),
-    };
-    let mut places = [place; 24];
-    let mut pool = Pool::over(Lent {
-        places: &mut places,
-    });
+    let mut places = [Place::default(); 24];
+    let mut pool = Pool::over(&mut places);
     match Statement::play(edition, 24, region, &mut pool, log) {
         Ok(_) => Ok(()),
         Err(fault) => print_refusal(rt, fault),
@@ -62,7 +54,7 @@ fn print_hour(rt: &HostRuntime, title: &str, standing: Standing, region: u8) -> 
 
 fn print_corrections(rt: &HostRuntime) -> io::Result<()> {
     println!(rt; "An hour corrected call by call, the newer edition, East")?;
-    let Log { mut entries } = corrected_log(rt.alloc(), sold_row())?;
+    let Log { mut entries } = corrected_log(rt.alloc())?;
     play(rt, Newer, 0, entries.as_mut_slice())?;
     for entry in entries.as_slice() {
         print_entry(rt, entry)?;

@@ -1,64 +1,13 @@
 // What is printed of calls and their answers.
 use book::{Answer, Call, Change, DayLine, Entry, Fault, Layer};
-use settlement::{Amounts, HourLine, IntervalFigures, State};
+use samples::{print_amounts, print_figures, print_line, print_totals};
 use std::io;
 
-pub fn print_heading(rt: &HostRuntime) -> io::Result<()> {
-    println!(rt;
-        "  slot   adjusted      basis    balance     energy       loss congestion       spin"
-    )
-}
-
-fn print_figures(rt: &HostRuntime, slot: u8, f: &IntervalFigures) -> io::Result<()> {
-    print!(rt; "{slot:>6}")?;
-    for figure in [
-        f.adjusted,
-        f.basis,
-        f.balance,
-        f.energy,
-        f.loss,
-        f.congestion,
-        f.spin,
-    ] {
-        print!(rt; " {figure:>10}")?;
-    }
-    println!(rt; "")
-}
-
-fn print_amounts(rt: &HostRuntime, what: &str, amounts: &Amounts) -> io::Result<()> {
-    let Amounts {
-        energy,
-        loss,
-        congestion,
-        total,
-    } = *amounts;
-    println!(rt;
-        "  {what:<10} energy {energy}, loss {loss}, congestion {congestion}, total {total}"
-    )
-}
-
-fn print_totals(rt: &HostRuntime, balance: i64, spin: i64, total: i64) -> io::Result<()> {
-    println!(rt; "  balance {balance} kW seconds, spin {spin}, total {total}")
-}
-
-fn print_line(rt: &HostRuntime, line: &HourLine) -> io::Result<()> {
-    let state = match line.state {
-        State::Settled => "settled",
-        State::Unsettled => "unsettled",
-    };
-    let intervals = line.intervals;
-    let seconds = line.seconds;
-    println!(rt; "  {state}, {intervals} intervals, {seconds} seconds")?;
-    print_amounts(rt, "day-ahead", &line.ahead)?;
-    print_amounts(rt, "balancing", &line.balancing)?;
-    print_totals(rt, line.balance, line.spin, line.total)
-}
-
 fn print_day(rt: &HostRuntime, day: &DayLine) -> io::Result<()> {
-    let settled = day.settled;
-    let intervals = day.intervals;
-    let seconds = day.seconds;
-    println!(rt; "  {settled} settled, {intervals} intervals, {seconds} seconds")?;
+    println!(rt;
+        "  {} settled, {} intervals, {} seconds",
+        day.settled, day.intervals, day.seconds
+    )?;
     print_amounts(rt, "day-ahead", &day.ahead)?;
     print_amounts(rt, "balancing", &day.balancing)?;
     print_totals(rt, day.balance, day.spin, day.total)
@@ -83,10 +32,10 @@ pub fn print_refusal(rt: &HostRuntime, fault: Fault) -> io::Result<()> {
         Layer::Statement => "statement",
         Layer::Store => "store",
     };
-    let number = report.number;
-    let hour = report.hour;
-    let slot = report.slot;
-    println!(rt; "refused by the {layer}: {number}, hour {hour}, slot {slot}")
+    println!(rt;
+        "refused by the {layer}: {}, hour {}, slot {}",
+        report.number, report.hour, report.slot
+    )
 }
 
 fn print_change(rt: &HostRuntime, change: &Change) -> io::Result<()> {

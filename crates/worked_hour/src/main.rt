@@ -1,59 +1,9 @@
 // Settles two hours of a station under both editions and prints what they come to, in cents.
 #![tactic(auto)]
 
-mod hours;
-
-use hours::{operators_hour, shared_hour};
-use settlement::{
-    Amounts, Edition, Hour, HourLine, IntervalFigures, Newer, Older, Region, Standing, State,
-    worked_figures,
-};
+use samples::{operators_hour, print_figures, print_heading, print_line, shared_hour};
+use settlement::{Edition, Hour, Newer, Older, Region, Standing, worked_figures};
 use std::io;
-
-fn print_figures(rt: &HostRuntime, slot: u8, f: &IntervalFigures) -> io::Result<()> {
-    print!(rt; "{slot:>6}")?;
-    for figure in [
-        f.adjusted,
-        f.basis,
-        f.balance,
-        f.energy,
-        f.loss,
-        f.congestion,
-        f.spin,
-    ] {
-        print!(rt; " {figure:>10}")?;
-    }
-    println!(rt; "")
-}
-
-fn print_amounts(rt: &HostRuntime, what: &str, amounts: &Amounts) -> io::Result<()> {
-    let Amounts {
-        energy,
-        loss,
-        congestion,
-        total,
-    } = *amounts;
-    println!(rt;
-        "  {what:<10} energy {energy}, loss {loss}, congestion {congestion}, total {total}"
-    )
-}
-
-fn print_line(rt: &HostRuntime, line: &HourLine) -> io::Result<()> {
-    let state = match line.state {
-        State::Settled => "settled",
-        State::Unsettled => "unsettled",
-    };
-    println!(rt;
-        "  {state}, {} intervals, {} seconds",
-        line.intervals, line.seconds
-    )?;
-    print_amounts(rt, "day-ahead", &line.ahead)?;
-    print_amounts(rt, "balancing", &line.balancing)?;
-    println!(rt;
-        "  balance {} kW seconds, spin {}, total {}",
-        line.balance, line.spin, line.total
-    )
-}
 
 fn print_edition<E: Edition>(
     rt: &HostRuntime,
@@ -63,9 +13,7 @@ fn print_edition<E: Edition>(
     region: Region,
 ) -> io::Result<()> {
     println!(rt; "{name} edition")?;
-    println!(rt;
-        "  slot   adjusted      basis    balance     energy       loss congestion       spin"
-    )?;
+    print_heading(rt)?;
     for slot in 0..24u8 {
         if let Ok(figures) = hour.figures(edition, region, slot) {
             print_figures(rt, slot, &figures)?;

@@ -1,50 +1,13 @@
-// The hours that the program settles.
+// Two hours of a station.
+use crate::figures::{FIVE_MINUTES, SOLD};
 use settlement::{Interval, Limits, Prices, Schedule, SpinPrices, Standing};
 
-const NO_LIMITS: Limits = Limits {
-    rtd: 0,
-    agc: 0,
-    energy: 0,
-};
-
-const NO_RESERVE: SpinPrices = SpinPrices { east: 0, west: 0 };
-
-// The operator's own example: five minutes at 65 MW, out of merit for reliability, at $33.65 and $1.72 per MWh.
-pub fn five_minutes() -> Interval {
-    Interval {
-        seconds: 300,
-        flags: 4,
-        average: 65_000,
-        limits: NO_LIMITS,
-        transactions: 0,
-        spin: 0,
-        prices: Prices {
-            energy: 3_365,
-            loss: 172,
-            congestion: 0,
-        },
-        reserve: NO_RESERVE,
-    }
-}
-
-// Twelve of them, with 50 MW sold the day before at $25.25, $3.06 and -$5.49.
+// Twelve of the operator's five minutes, and what was sold for them.
 pub fn operators_hour() -> Standing {
     let mut records = [None; 24];
-    for slot in 0..12usize {
-        records[slot] = Some(five_minutes());
-    }
-    let prices = Prices {
-        energy: 2_525,
-        loss: 306,
-        congestion: -549,
-    };
+    records[..12].fill(Some(FIVE_MINUTES));
     Standing {
-        schedule: Some(Schedule {
-            generation: 50_000,
-            transactions: 0,
-            spin: 0,
-            prices,
-        }),
+        schedule: Some(SOLD),
         reading: None,
         records,
     }
