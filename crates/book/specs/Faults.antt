@@ -1,11 +1,18 @@
 -- What is told of each fault: its layer, its number, and the hour and slot that the call named.
-use Rattle.std.specs.Prelude.{ℕ}
+use Rattle.std.specs.Prelude.{ℕ, List, codes}
 use Rattle.settlement.specs.Limits.{number}
 use Rattle.record_store.specs.Faults.{figures}
 use Rattle.book.specs.declared.faults.Fault.{Fault}
 use Rattle.book.specs.declared.faults.Fault.TheVariants.{BadHours, BadRegion, Occupied, BadRecords, NoHour, Refused, InStore}
-use Rattle.book.specs.declared.faults.Layer.TheVariants.{Statement, Store}
+use Rattle.book.specs.declared.faults.Layer.{Layer}
+use Rattle.book.specs.declared.faults.Layer.TheVariants.{File, Statement, Store}
 use Rattle.book.specs.declared.faults.Report.{Report}
+
+-- The layers by name.
+abbrev pub layer_name : Layer → List ℕ
+layer_name File = codes "file"
+layer_name Statement = codes "statement"
+layer_name Store = codes "store"
 
 -- A fault that the statement found.
 abbrev pub told : ℕ → ℕ → ℕ → Report

@@ -1,10 +1,11 @@
 // Why a call is refused.
-ghost use Rattle.std.specs.Prelude.{◌≡◌};
+ghost use Rattle.std.specs.Prelude.{◌≡◌, Some};
 ghost use Rattle.book.specs.declared.faults.Fault.TheVariants.{BadRegion, InStore};
-ghost use Rattle.book.specs.Faults.{told, report as report_of};
+ghost use Rattle.book.specs.Faults.{layer_name, told, report as report_of};
 
 use record_store::StoreFault;
 use settlement::{Refusal, UnknownRegion};
+use std::fmt;
 
 // The first thing that is wrong with a call. Hour and slot are those that the call named, also where they are what is
 // refused.
@@ -58,6 +59,18 @@ pub enum Layer {
     File,
     Statement,
     Store,
+}
+
+impl fmt::Display for Layer {
+    ghost output = { λ layer. Some (layer_name layer) };
+
+    fn fmt<W: fmt::Write>(&self, f: &mut fmt::Formatter<W>) -> fmt::Result {
+        f.write_str(match self {
+            Layer::File => "file",
+            Layer::Statement => "statement",
+            Layer::Store => "store",
+        })
+    }
 }
 
 // What is told of a fault.

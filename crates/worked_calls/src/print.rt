@@ -1,5 +1,5 @@
 // What is printed of calls and their answers.
-use book::{Answer, Call, Change, DayLine, Entry, Fault, Layer};
+use book::{Answer, Call, Change, DayLine, Entry, Fault};
 use samples::{print_amounts, print_figures, print_line, print_totals};
 use std::io;
 
@@ -27,14 +27,9 @@ pub fn print_told(rt: &HostRuntime, entry: &Entry) -> io::Result<()> {
 
 pub fn print_refusal(rt: &HostRuntime, fault: Fault) -> io::Result<()> {
     let report = fault.report();
-    let layer = match report.layer {
-        Layer::File => "file",
-        Layer::Statement => "statement",
-        Layer::Store => "store",
-    };
     println!(rt;
-        "refused by the {layer}: {}, hour {}, slot {}",
-        report.number, report.hour, report.slot
+        "refused by the {}: {}, hour {}, slot {}",
+        report.layer, report.number, report.hour, report.slot
     )
 }
 
