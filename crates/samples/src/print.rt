@@ -1,5 +1,5 @@
 // How the figures of an hour are printed.
-use settlement::{Amounts, HourLine, IntervalFigures, State};
+use settlement::{Amounts, HourLine, IntervalFigures};
 use std::io;
 
 pub fn print_heading(rt: &HostRuntime) -> io::Result<()> {
@@ -41,13 +41,9 @@ pub fn print_totals(rt: &HostRuntime, balance: i64, spin: i64, total: i64) -> io
 }
 
 pub fn print_line(rt: &HostRuntime, line: &HourLine) -> io::Result<()> {
-    let state = match line.state {
-        State::Settled => "settled",
-        State::Unsettled => "unsettled",
-    };
     println!(rt;
-        "  {state}, {} intervals, {} seconds",
-        line.intervals, line.seconds
+        "  {}, {} intervals, {} seconds",
+        line.state, line.intervals, line.seconds
     )?;
     print_amounts(rt, "day-ahead", &line.ahead)?;
     print_amounts(rt, "balancing", &line.balancing)?;

@@ -9,3 +9,4 @@ pub mod Bounds
 pub mod Worked
 pub mod Laws
 pub mod Regions
+pub mod States

@@ -1,6 +1,10 @@
 // The figures of an hour. Powers are in kW, readings in kWh, prices in cents per MWh (for reserve: cents per MW and
 // hour), amounts in cents. A figure may lie outside its limits until it is checked.
+ghost use Rattle.std.specs.Prelude.{Some};
 ghost use Rattle.settlement.specs.Regions.{NamesRegion};
+ghost use Rattle.settlement.specs.States.{state_name};
+
+use std::fmt;
 
 // The parts of a price.
 #[derive(Clone, Copy, Default, PartialEq, Eq, Debug)]
@@ -115,6 +119,17 @@ pub enum State {
     Settled,
     #[default]
     Unsettled,
+}
+
+impl fmt::Display for State {
+    ghost output = { λ state. Some (state_name state) };
+
+    fn fmt<W: fmt::Write>(&self, f: &mut fmt::Formatter<W>) -> fmt::Result {
+        f.write_str(match self {
+            State::Settled => "settled",
+            State::Unsettled => "unsettled",
+        })
+    }
 }
 
 // Amounts by component, and what they come to.
