@@ -41,9 +41,11 @@ impl Tally {
         ensures slots { length records.now ≡ 24 }
     {
         let mut tally = Tally::default();
-        for interval in records.iter().flatten() {
-            interval.check()?;
-            tally.count(interval);
+        for record in records {
+            if let Some(interval) = record {
+                interval.check()?;
+                tally.count(interval);
+            }
         }
         Ok(tally)
     }

@@ -96,15 +96,17 @@ impl Hour {
         ensures within { SumsWithin 24 result }
     {
         let mut sums = Sums::default();
-        for interval in self.standing.records.iter().flatten() {
-            let settling = Settling {
-                hour: self,
-                edition,
-                region,
-                row,
-                interval,
-            };
-            sums.add(interval.seconds, &settling.figures());
+        for record in &self.standing.records {
+            if let Some(interval) = record {
+                let settling = Settling {
+                    hour: self,
+                    edition,
+                    region,
+                    row,
+                    interval,
+                };
+                sums.add(interval.seconds, &settling.figures());
+            }
         }
         sums
     }
