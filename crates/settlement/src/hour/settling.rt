@@ -96,6 +96,7 @@ impl Hour {
         ensures within { SumsWithin 24 result }
     {
         let mut sums = Sums::default();
+        // Not `iter().flatten()`: a whole day then takes a sixteenth more instructions.
         for record in &self.standing.records {
             if let Some(interval) = record {
                 let settling = Settling {
