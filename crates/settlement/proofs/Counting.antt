@@ -1,9 +1,12 @@
--- Counting the intervals of an hour, one after another.
-use Rattle.std.proofs.Common.{◌≡◌, ℕ, ◌+◌, ◌<◌, List, [], ◌∷◌, ◌++◌, length, get_or, take, drop, pos, ◌*ℤ◌, nat_abs, Some, None, sym, refl, ap, ◌∙◌, mul-le-mul, arith}
-use Rattle.std.proofs.lemmas.List.{length_push, take-append-drop, take_more}
+-- Counting the records of an hour, one place after another.
+use Rattle.std.proofs.Common.{◌≡◌, ℕ, ◌+◌, ◌<◌, List, [], ◌∷◌, ◌++◌, length, get_or, take, drop, pos, ◌*ℤ◌, nat_abs, Some, None, Option, sym, refl, ap, ◌∙◌, mul-le-mul, arith}
+use Rattle.std.specs.List.{flat_map}
+use Rattle.std.specs.Option.{option_to_list}
+use Rattle.std.proofs.lemmas.List.{length_push, take-append-drop, append-nil}
 use Rattle.std.proofs.lemmas.List.Sums.{sum_by_push}
 use Rattle.arithmetic.proofs.Sizes.{abs_sum, abs_product}
-use Rattle.arithmetic.proofs.Sums.{sum_ℤ-push, sum_ℤ_none}
+use Rattle.arithmetic.proofs.Sums.{sum_ℤ-push, sum_ℤ_none, standing_more}
+use Rattle.std.proofs.lemmas.List.Concat.{flat_map-append}
 use Rattle.settlement.specs.declared.figures.Interval.{Interval}
 use Rattle.settlement.specs.declared.figures.Tally.{Tally}
 use Rattle.settlement.specs.declared.limits.Refusal.{Refusal}
@@ -28,13 +31,13 @@ refusal_append [] js = refl
 refusal_append (i ∷ is) js =
     ap (first (interval_refusal i)) (refusal_append is js) ∙ first_assoc (interval_refusal i) (each_refusal is) (each_refusal js)
 
--- The first k intervals are counted, and break no limit.
-pub record Counted (xs : List Interval) (k : ℕ) (t : Tally) : Type 0 where
-  pub is : t ≡ tally_of (take k xs)
-  pub passed : each_refusal (take k xs) ≡ None
+-- The first k places are counted, and break no limit.
+pub record Counted (xs : List (Option Interval)) (k : ℕ) (t : Tally) : Type 0 where
+  pub is : t ≡ tally_of (flat_map option_to_list (take k xs))
+  pub passed : each_refusal (flat_map option_to_list (take k xs)) ≡ None
   pub room : TallyWithin k t
 
-pub counted_none : (xs : List Interval) (t : Tally) → (t.intervals ≡ 0) × ((t.seconds ≡ 0) × (t.volume ≡ pos 0)) → Counted xs 0 t
+pub counted_none : (xs : List (Option Interval)) (t : Tally) → (t.intervals ≡ 0) × ((t.seconds ≡ 0) × (t.volume ≡ pos 0)) → Counted xs 0 t
 unfolding each_refusal
 counted_none xs t zero =
     let volume = zero.1.1 ∙ sym (sum_ℤ_none (λ (i : Interval). i.average *ℤ pos i.seconds)) in
@@ -44,15 +47,26 @@ counted_none xs t zero =
       room = record { few = omega (arith, zero.0); short = omega (arith, zero.1.0); small = omega (arith, ap nat_abs zero.1.1) };
     }
 
-pub counted_more : (xs : List Interval) (k : ℕ) (t t' : Tally) (i : Interval) → k < length xs → i ≡ get_or xs k i → interval_refusal i ≡ None → Counted xs k t → t' ≡ with_interval t i → Counted xs (k + 1) t'
+pub counted_empty : (xs : List (Option Interval)) (k : ℕ) (t : Tally) → k < length xs → get_or xs k None ≡ None → Counted xs k t → Counted xs (k + 1) t
+counted_empty xs k t l e c =
+    let more : flat_map option_to_list (take (k + 1) xs) ≡ flat_map option_to_list (take k xs) = standing_more xs k l ∙ ap (λ o. flat_map option_to_list (take k xs) ++ option_to_list o) e ∙ append-nil (flat_map option_to_list (take k xs)) in
+    record {
+      is = c.is ∙ ap tally_of (sym more);
+      passed = ap each_refusal more ∙ c.passed;
+      room = record { few = omega (arith, c.room.few); short = omega (arith, c.room.short); small = omega (arith, c.room.small) };
+    }
+
+pub counted_more : (xs : List (Option Interval)) (k : ℕ) (t t' : Tally) (i : Interval) → k < length xs → get_or xs k None ≡ Some i
+    → interval_refusal i ≡ None → Counted xs k t → t' ≡ with_interval t i → Counted xs (k + 1) t'
 unfolding each_refusal
-counted_more xs k t t' i l at ok c q =
+counted_more xs k t t' i l e ok c q =
     let s = sound i ok in
-    let more : take (k + 1) xs ≡ take k xs ++ i ∷ [] = take_more xs k i l ∙ ap (λ j. take k xs ++ j ∷ []) (sym at) in
+    let is = flat_map option_to_list (take k xs) in
+    let more : flat_map option_to_list (take (k + 1) xs) ≡ is ++ i ∷ [] = standing_more xs k l ∙ ap (λ o. flat_map option_to_list (take k xs) ++ option_to_list o) e in
     let one : each_refusal (i ∷ []) ≡ None = first_none (interval_refusal i) None ok in
     record {
-      is = q ∙ ap (λ t. with_interval t i) c.is ∙ tally_push (take k xs) i ∙ ap tally_of (sym more);
-      passed = ap each_refusal more ∙ refusal_append (take k xs) (i ∷ []) ∙ first_none (each_refusal (take k xs)) (each_refusal (i ∷ [])) c.passed ∙ one;
+      is = q ∙ ap (λ t. with_interval t i) c.is ∙ tally_push is i ∙ ap tally_of (sym more);
+      passed = ap each_refusal more ∙ refusal_append is (i ∷ []) ∙ first_none (each_refusal is) (each_refusal (i ∷ [])) c.passed ∙ one;
       room =
           record {
             few = omega (arith, ap (λ (t : Tally). t.intervals) q, c.room.few);
@@ -61,12 +75,15 @@ counted_more xs k t t' i l at ok c q =
           };
     }
 
--- An interval that breaks a limit after others that break none is the first that does.
-pub counted_refused : (xs : List Interval) (k : ℕ) (t : Tally) (i : Interval) (r : Refusal) → k < length xs → i ≡ get_or xs k i → interval_refusal i ≡ Some r → Counted xs k t → each_refusal xs ≡ Some r
+-- A place that breaks a limit after others that break none is the first that does.
+pub counted_refused : (xs : List (Option Interval)) (k : ℕ) (t : Tally) (i : Interval) (r : Refusal) → k < length xs → get_or xs k None ≡ Some i
+    → interval_refusal i ≡ Some r → Counted xs k t → each_refusal (flat_map option_to_list xs) ≡ Some r
 unfolding each_refusal
-counted_refused xs k t i r l at bad c =
-    let front = take k xs in
-    let rest = drop (k + 1) xs in
-    let whole : xs ≡ (front ++ i ∷ []) ++ rest = sym (take-append-drop (k + 1) xs) ∙ ap (λ zs. zs ++ rest) (take_more xs k i l ∙ ap (λ j. front ++ j ∷ []) (sym at)) in
-    let first_is = refusal_append front (i ∷ []) ∙ first_none (each_refusal front) (each_refusal (i ∷ [])) c.passed ∙ ap (λ o. first o None) bad in
-    ap each_refusal whole ∙ refusal_append (front ++ i ∷ []) rest ∙ ap (λ o. first o (each_refusal rest)) first_is
+counted_refused xs k t i r l e bad c =
+    let is = flat_map option_to_list (take k xs) in
+    let js = flat_map option_to_list (drop (k + 1) xs) in
+    let whole : flat_map option_to_list xs ≡ (is ++ i ∷ []) ++ js =
+    ap (flat_map option_to_list) (sym (take-append-drop (k + 1) xs)) ∙ flat_map-append option_to_list (take (k + 1) xs) (drop (k + 1) xs)
+    ∙ ap (λ zs. zs ++ js) (standing_more xs k l ∙ ap (λ o. is ++ option_to_list o) e) in
+    let front = refusal_append is (i ∷ []) ∙ first_none (each_refusal is) (each_refusal (i ∷ [])) c.passed ∙ ap (λ o. first o None) bad in
+    ap each_refusal whole ∙ refusal_append (is ++ i ∷ []) js ∙ ap (λ o. first o (each_refusal js)) front

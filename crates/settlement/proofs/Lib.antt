@@ -9,4 +9,3 @@ pub mod Changing
 pub mod Summing
 pub mod Sizing
 pub mod Nearness
-pub mod Walking

@@ -1,4 +1,5 @@
-// The flags under which an interval ran. A record has them as a sum, a bit each.
+// The flags under which an interval ran. A record has them as a sum, a bit each. They stay numbers: the sum is one of a
+// record's figures, as the day file has it, and may break its limits until it is checked.
 ghost use Rattle.std.specs.Prelude.{◌≡◌};
 ghost use Rattle.settlement.specs.Limits.{has_flag};
 

@@ -36,24 +36,25 @@ const PRICE: Span = Span {
 
 const ALL_FLAGS: u8 = 127;
 
-// Why figures, a change to an hour or a question about it are refused: the first reason that applies.
+// Why figures, a change to an hour or a question about it are refused, each with its number: the first reason that
+// applies.
 #[derive(Clone, Copy, PartialEq, Eq, Debug)]
 pub enum Refusal {
     // The slot is above 23.
-    Slot,
+    Slot = 6,
     // A figure lies outside its limits.
-    Seconds,
-    Flags,
-    Power,
-    Price,
+    Seconds = 7,
+    Flags = 8,
+    Power = 9,
+    Price = 10,
     // The seconds of the hour exceed 3,600.
-    Overfull,
+    Overfull = 11,
     // Nothing stands there.
-    Nothing,
+    Nothing = 13,
     // A reading lies outside its limits.
-    Reading,
+    Reading = 14,
     // The hour is not settled.
-    Unsettled,
+    Unsettled = 15,
 }
 
 impl Refusal {
@@ -61,17 +62,7 @@ impl Refusal {
     pub fn number(self) -> u8
         ensures { result ≡ number_of self }
     {
-        match self {
-            Refusal::Slot => 6,
-            Refusal::Seconds => 7,
-            Refusal::Flags => 8,
-            Refusal::Power => 9,
-            Refusal::Price => 10,
-            Refusal::Overfull => 11,
-            Refusal::Nothing => 13,
-            Refusal::Reading => 14,
-            Refusal::Unsettled => 15,
-        }
+        self as u8
     }
 }
 

@@ -96,15 +96,18 @@ impl Hour {
         ensures within { SumsWithin 24 result }
     {
         let mut sums = Sums::default();
-        for interval in self.standing.records.iter().flatten() {
-            let settling = Settling {
-                hour: self,
-                edition,
-                region,
-                row,
-                interval,
-            };
-            sums.add(interval.seconds, &settling.figures());
+        // Not `iter().flatten()`: a whole day then takes a sixteenth more instructions.
+        for record in &self.standing.records {
+            if let Some(interval) = record {
+                let settling = Settling {
+                    hour: self,
+                    edition,
+                    region,
+                    row,
+                    interval,
+                };
+                sums.add(interval.seconds, &settling.figures());
+            }
         }
         sums
     }

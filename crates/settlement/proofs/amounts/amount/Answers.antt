@@ -12,9 +12,6 @@ module _ (kw price : ℤ) (seconds : ℕ) (k : nat_abs kw ≤ 1206000000) (p : n
   second : Holds (to_z w64 (of_z w64 (to_z w64 (of_z w64 kw) *ℤ to_z w64 (of_z w64 (to_z w32 (of_z w32 price))))) *ℤ to_z w64 seconds) (kw *ℤ price *ℤ pos seconds) 4341600000000000000
   second = times (back w64 first (lit< tt)) (natural w64 seconds 3600 s (lit< tt))
 
-pub overflow_mul-kw : goal.overflow_mul-kw
-overflow_mul-kw c = fits w64 (first c.args.kw c.args.price c.args.seconds c.requires.kw c.requires.price c.requires.seconds) (lit< tt)
-
 pub overflow_mul-kw-2 : goal.overflow_mul-kw-2
 overflow_mul-kw-2 c = fits w64 (second c.args.kw c.args.price c.args.seconds c.requires.kw c.requires.price c.requires.seconds) (lit< tt)
 

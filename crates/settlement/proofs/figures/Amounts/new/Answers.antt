@@ -1,5 +1,5 @@
 use Rattle.std.proofs.Common.{◌≡◌, ◌*◌, ◌^◌, ◌≤◌, ℤ, ◌+ℤ◌, ◌-ℤ◌, nat_abs, ap, ◌∙◌, arith, lit<, w64, to_z, of_z}
-use Rattle.arithmetic.proofs.Machine.{Holds, holds, whole, fits, back, plus, minus}
+use Rattle.arithmetic.proofs.Machine.{Holds, holds, whole, back, plus, minus}
 use Rattle.settlement.specs.declared.editions.Sign.{Sign}
 use Rattle.settlement.specs.Formulas.{shown}
 use Rattle.settlement.proofs.Signs.{shown_size}
@@ -15,10 +15,6 @@ module _ (sign : Sign) (energy loss congestion r : ℤ) (e : nat_abs energy ≤ 
 
   total : Holds (to_z w64 (of_z w64 (to_z w64 (of_z w64 energy) +ℤ to_z w64 (of_z w64 loss))) -ℤ to_z w64 (of_z w64 r)) (energy +ℤ loss -ℤ shown sign congestion) (3 * 2 ^ 56)
   total = minus (back w64 (plus (figure energy e) (figure loss l)) (lit< tt)) (back w64 against (lit< tt))
-
-pub overflow_sub-result : goal.overflow_sub-result
-overflow_sub-result c =
-    fits w64 (total c.args.sign c.args.energy c.args.loss c.args.congestion _ c.requires.energy c.requires.loss c.requires.congestion c.shown.ensures) (lit< tt)
 
 pub returns : goal.returns
 returns c =

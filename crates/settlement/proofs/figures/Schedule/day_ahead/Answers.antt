@@ -1,7 +1,7 @@
 use Rattle.std.proofs.Common.{◌≡◌, ◌^◌, ◌≤◌, ℤ, pos, ◌-ℤ◌, neg_ℤ, nat_abs, ap, ◌∙◌, arith, lit<, w32, w64, SFits, to_z, of_z, rules}
 use borrow.Author.Differences.{ints}
 use Rattle.std.proofs.lemmas.Int.{to_z-of_z}
-use Rattle.arithmetic.proofs.Machine.{Holds, holds, back, sized}
+use Rattle.arithmetic.proofs.Machine.{Holds, holds, back}
 use Rattle.arithmetic.proofs.Sizes.{abs_neg}
 use Rattle.settlement.specs.declared.figures.Schedule.{Schedule}
 use Rattle.settlement.specs.declared.editions.Sign.TheVariants.{Minus}
@@ -19,14 +19,6 @@ negated {u} {z} h = back w64 (holds (zero_less u ∙ ap neg_ℤ h.is) (omega (ar
   where
     zero_less : (u : ℤ) → pos 0 -ℤ u ≡ neg_ℤ u
     zero_less u = omega (arith, ints)
-
-pub new-requires : goal.new-requires
-new-requires c =
-    let row = c.args.self.now in
-    let e = held row _ row.prices.energy (search rules) c.sold.ensures.value c.sold.ensures.bound in
-    let l = held row _ row.prices.loss (search rules) c.sold-2.ensures.value c.sold-2.ensures.bound in
-    let g = negated (held row _ row.prices.congestion (search rules) c.sold-3.ensures.value c.sold-3.ensures.bound) in
-    record { energy = sized e; loss = sized l; congestion = sized g }
 
 pub returns : goal.returns
 returns c =

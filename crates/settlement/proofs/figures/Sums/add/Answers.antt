@@ -14,23 +14,8 @@ balances x b s g h k = plus (back w64 (whole x (23 * 4341600000000) g) (lit< tt)
 added : (x y : ℤ) → nat_abs x ≤ 23 * 1206000000000 → nat_abs y ≤ 1206000000000 → Holds (to_z w64 (of_z w64 x) +ℤ to_z w64 (of_z w64 y)) (x +ℤ y) (24 * 1206000000000)
 added x y g h = plus (back w64 (whole x (23 * 1206000000000) g) (lit< tt)) (back w64 (whole y 1206000000000 h) (lit< tt))
 
-pub overflow_mul-self : goal.overflow_mul-self
-overflow_mul-self c = fits w64 (energy c.args.figures.now.balance c.args.seconds c.requires.figures.balance c.requires.seconds) (lit< tt)
-
 pub overflow_add-self : goal.overflow_add-self
 overflow_add-self c = fits w64 (balances c.args.self.now.balance c.args.figures.now.balance c.args.seconds c.requires.room.balance c.requires.figures.balance c.requires.seconds) (lit< tt)
-
-pub overflow_add-self-2 : goal.overflow_add-self-2
-overflow_add-self-2 c = fits w64 (added c.args.self.now.energy c.args.figures.now.energy c.requires.room.energy c.requires.figures.energy) (lit< tt)
-
-pub overflow_add-self-3 : goal.overflow_add-self-3
-overflow_add-self-3 c = fits w64 (added c.args.self.now.loss c.args.figures.now.loss c.requires.room.loss c.requires.figures.loss) (lit< tt)
-
-pub overflow_add-self-4 : goal.overflow_add-self-4
-overflow_add-self-4 c = fits w64 (added c.args.self.now.congestion c.args.figures.now.congestion c.requires.room.congestion c.requires.figures.congestion) (lit< tt)
-
-pub overflow_add-self-5 : goal.overflow_add-self-5
-overflow_add-self-5 c = fits w64 (added c.args.self.now.spin c.args.figures.now.spin c.requires.room.spin c.requires.figures.spin) (lit< tt)
 
 pub returns : goal.returns
 returns c =

@@ -1,14 +1,8 @@
-use Rattle.std.proofs.Common.{◌+◌, arith, lit<, w64}
+use Rattle.std.proofs.Common.{◌+◌, lit<, w64}
 use Rattle.arithmetic.proofs.Machine.{fits, back}
 use Rattle.settlement.proofs.Ranges.{sound}
 use Rattle.settlement.proofs.Volumes.{energy_held, added}
 use Rattle.settlement.proofs.figures.Tally.count.Goals as goal
-
-pub overflow_add-self : goal.overflow_add-self
-overflow_add-self c = omega (arith, c.requires.room.few)
-
-pub overflow_add-self-2 : goal.overflow_add-self-2
-overflow_add-self-2 c = let s = sound c.args.interval.now c.requires.fair in omega (arith, s.most, c.requires.room.short)
 
 pub overflow_mul-self : goal.overflow_mul-self
 overflow_mul-self c = fits w64 (energy_held c.args.interval.now (sound _ c.requires.fair)) (lit< tt)

@@ -1,7 +1,7 @@
 use Rattle.std.proofs.Common.{◌≡◌, ◌+◌, ◌*◌, ◌≤◌, true, length, ℤ, ◌+ℤ◌, nat_abs, ap, ◌∙◌, arith, lit<, lit≤, w64, to_z, of_z}
 use Rattle.std.proofs.lemmas.Bool.{and_from, le-leb}
 use Rattle.arithmetic.proofs.Sums.{standing_length}
-use Rattle.arithmetic.proofs.Machine.{Holds, holds, whole, fits, back, plus, wider, sized}
+use Rattle.arithmetic.proofs.Machine.{Holds, holds, whole, fits, back, plus}
 use Rattle.settlement.specs.declared.figures.Amounts.{Amounts}
 use Rattle.settlement.specs.declared.figures.Standing.{Standing}
 use Rattle.settlement.specs.declared.figures.Sums.{Sums}
@@ -48,15 +48,6 @@ module _ (h : Standing) (s : Sums) (sign : Sign) (w : Within h) (few : SumsWithi
 line_short : (h : Standing) (s : Sums) (sign : Sign) → Within h → length h.records ≡ 24 → is_short_line (line_of sign h s) ≡ true
 line_short h s sign w slots =
     and_from _ _ (le-leb (length (intervals h)) 24 (omega (arith, standing_length h.records, slots))) (le-leb (seconds h) 3600 w.short)
-
-pub new-balancing-requires : goal.new-balancing-requires
-new-balancing-requires c =
-    let s = c.args.sums.now in
-    record {
-      energy = sized (wider (figure s.energy c.requires.within.energy) (lit≤ tt));
-      loss = sized (wider (figure s.loss c.requires.within.loss) (lit≤ tt));
-      congestion = sized (wider (figure s.congestion c.requires.within.congestion) (lit≤ tt));
-    }
 
 pub overflow_add-result : goal.overflow_add-result
 overflow_add-result c =

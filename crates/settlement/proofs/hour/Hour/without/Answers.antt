@@ -1,10 +1,7 @@
-use Rattle.std.proofs.Common.{◌<◌, length, sym, ap, ◌∙◌, arith}
-use Rattle.std.specs.List.{flat_map}
-use Rattle.std.specs.Option.{option_to_list}
+use Rattle.std.proofs.Common.{◌<◌, length, ap, arith}
 use Rattle.arithmetic.proofs.Sums.{standing_has}
 use Rattle.settlement.specs.declared.figures.Tally.{Tally}
-use Rattle.settlement.specs.Standing.{tally_of}
-use Rattle.settlement.proofs.Changing.{slot_cleared, slot_empty, tally_small, seconds_part}
+use Rattle.settlement.proofs.Changing.{slot_cleared, tally_small, seconds_part}
 use Rattle.settlement.proofs.Within.{within, fair_one}
 use Rattle.settlement.proofs.hour.Hour.without.Goals as goal
 
@@ -30,9 +27,3 @@ returns-in-Some c =
     let l : c.args.slot < length hour.standing.records = omega (arith, hour.slots, c.requires) in
     slot_cleared hour.standing.records c.args.slot l c.in-Some.interval hour.counted c.discount.new.self c.in-Some.is hour.tallied
     c.discount.ensures
-
-pub returns-in_default : goal.returns-in_default
-returns-in_default c =
-    let hour = c.args.self.now in
-    let l : c.args.slot < length hour.standing.records = omega (arith, hour.slots, c.requires) in
-    hour.tallied ∙ ap (λ xs. tally_of (flat_map option_to_list xs)) (sym (slot_empty hour.standing.records c.args.slot l c.in_default.is))

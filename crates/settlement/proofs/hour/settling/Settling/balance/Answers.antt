@@ -19,12 +19,6 @@ module _ (basis : ℤ) (row : Schedule) (i : Interval) (b : nat_abs basis ≤ 12
       (basis -ℤ row.generation -ℤ (i.transactions -ℤ row.transactions)) 1206000000
   due = minus (back w64 beyond (lit< tt)) (back w64 change (lit< tt))
 
-pub overflow_sub-result : goal.overflow_sub-result
-overflow_sub-result _ c =
-    let s = c.args.self.now in
-    let t = settles s.hour.now.standing s.row.now s.interval.now s.hour.now.within s.sold s.stands in
-    fits w64 (beyond c.args.basis s.row.now s.interval.now c.requires t.row t.interval) (lit< tt)
-
 pub overflow_sub-result-3 : goal.overflow_sub-result-3
 overflow_sub-result-3 _ c =
     let s = c.args.self.now in

@@ -1,5 +1,5 @@
 use Rattle.std.proofs.Common.{◌≡◌, ℕ, ◌≤◌, ℤ, ◌-ℤ◌, nat_abs, ap, ◌∙◌, arith, lit<, w32, w64, to_z, of_z}
-use Rattle.arithmetic.proofs.Machine.{Holds, holds, whole, back, sized}
+use Rattle.arithmetic.proofs.Machine.{Holds, holds, back, sized}
 use Rattle.settlement.specs.declared.figures.Limits.{Limits}
 use Rattle.settlement.specs.declared.editions.Sign.{Sign}
 use Rattle.settlement.specs.Editions.{Terms, Lawful}
@@ -27,17 +27,11 @@ shown_held sign sign' u z r q h e =
 held : {u z : ℤ} {n : ℕ} → u ≡ z → nat_abs u ≤ n → Holds u z n
 held e h = holds e (omega (arith, ap nat_abs e))
 
-due_held : (b : ℤ) → nat_abs b ≤ 1206000000 → Holds (to_z w64 (of_z w64 b)) b 1206000000
-due_held b h = back w64 (whole b 1206000000 h) (lit< tt)
-
 amount_held : (b z p : ℤ) (s : ℕ) (r : ℤ) → Holds (to_z w64 (of_z w64 b)) z 1206000000 → nat_abs p ≤ 1000000 → r ≡ amount (to_z w64 (of_z w64 b)) (to_z w32 (of_z w32 p)) s
     → nat_abs r ≤ 1206000000000 → Holds (to_z w64 (of_z w64 r)) (amount z p s) 1206000000000
 amount_held b z p s r h k e l =
     let v : r ≡ amount z p s = e ∙ (λ n. amount (h.is n) ((price_held p k).is n) s) in
     back w64 (holds v (omega (arith, ap nat_abs v))) (lit< tt)
-
-pub adjusted-adjusted-requires : goal.adjusted-adjusted-requires
-adjusted-adjusted-requires g c = c.args.self.now.stands
 
 pub balance-balance-requires : goal.balance-balance-requires
 balance-balance-requires g c =
@@ -47,23 +41,29 @@ balance-balance-requires g c =
     let e = s.edition.now in
     sized (basis_held (g.E.Edition.terms e) (g.met.E.Edition.lawful e) i.flags _ _ _ i.limits t.interval.limits c.adjusted-adjusted.ensures.value c.adjusted-adjusted.ensures.bound c.basis-basis.ensures)
 
-pub amount-requires : goal.amount-requires
-amount-requires g c =
+pub amount-requires-clause-price : goal.amount-requires-clause-price
+amount-requires-clause-price g c =
     let s = c.args.self.now in
-    let i = sound_one s.hour.now.standing s.interval.now (within _ s.hour.now.within) s.stands in
-    record { kw = sized (due_held c.balance-balance.result c.balance-balance.ensures.bound); price = sized (price_held s.interval.now.prices.energy i.prices.energy); seconds = i.most }
+    sized (price_held s.interval.now.prices.energy (sound_one s.hour.now.standing s.interval.now (within _ s.hour.now.within) s.stands).prices.energy)
 
-pub amount-requires-2 : goal.amount-requires-2
-amount-requires-2 g c =
-    let s = c.args.self.now in
-    let i = sound_one s.hour.now.standing s.interval.now (within _ s.hour.now.within) s.stands in
-    record { kw = sized (due_held c.balance-balance.result c.balance-balance.ensures.bound); price = sized (price_held s.interval.now.prices.loss i.prices.loss); seconds = i.most }
+pub amount-requires-clause-seconds : goal.amount-requires-clause-seconds
+amount-requires-clause-seconds g c = let s = c.args.self.now in (sound_one s.hour.now.standing s.interval.now (within _ s.hour.now.within) s.stands).most
 
-pub amount-requires-3 : goal.amount-requires-3
-amount-requires-3 g c =
+pub amount-requires-2-clause-price : goal.amount-requires-2-clause-price
+amount-requires-2-clause-price g c =
     let s = c.args.self.now in
-    let i = sound_one s.hour.now.standing s.interval.now (within _ s.hour.now.within) s.stands in
-    record { kw = sized (due_held c.balance-balance.result c.balance-balance.ensures.bound); price = sized (price_held s.interval.now.prices.congestion i.prices.congestion); seconds = i.most }
+    sized (price_held s.interval.now.prices.loss (sound_one s.hour.now.standing s.interval.now (within _ s.hour.now.within) s.stands).prices.loss)
+
+pub amount-requires-2-clause-seconds : goal.amount-requires-2-clause-seconds
+amount-requires-2-clause-seconds g c = let s = c.args.self.now in (sound_one s.hour.now.standing s.interval.now (within _ s.hour.now.within) s.stands).most
+
+pub amount-requires-3-clause-price : goal.amount-requires-3-clause-price
+amount-requires-3-clause-price g c =
+    let s = c.args.self.now in
+    sized (price_held s.interval.now.prices.congestion (sound_one s.hour.now.standing s.interval.now (within _ s.hour.now.within) s.stands).prices.congestion)
+
+pub amount-requires-3-clause-seconds : goal.amount-requires-3-clause-seconds
+amount-requires-3-clause-seconds g c = let s = c.args.self.now in (sound_one s.hour.now.standing s.interval.now (within _ s.hour.now.within) s.stands).most
 
 pub returns : goal.returns
 returns g c =
