@@ -1,8 +1,13 @@
 use crate::refusals::number;
-use settlement::{
-    Hour, Interval, Limits, Newer, Prices, Region, Schedule, SpinPrices, Standing, State,
-};
+use settlement::{Hour, Interval, Newer, Prices, Region, Schedule, Standing, State};
 use std::test::Fail;
+
+// $20 per MWh, and nothing else.
+const AT_20: Prices = Prices {
+    energy: 2_000,
+    loss: 0,
+    congestion: 0,
+};
 
 // Half an hour of some average output, settled at it.
 fn half_hour(average: i32) -> Interval {
@@ -10,19 +15,8 @@ fn half_hour(average: i32) -> Interval {
         seconds: 1_800,
         flags: 4,
         average,
-        limits: Limits {
-            rtd: 0,
-            agc: 0,
-            energy: 0,
-        },
-        transactions: 0,
-        spin: 0,
-        prices: Prices {
-            energy: 2_000,
-            loss: 0,
-            congestion: 0,
-        },
-        reserve: SpinPrices { east: 0, west: 0 },
+        prices: AT_20,
+        ..Interval::default()
     }
 }
 
@@ -37,11 +31,7 @@ const ROW: Schedule = Schedule {
     generation: 1_000,
     transactions: 0,
     spin: 0,
-    prices: Prices {
-        energy: 2_000,
-        loss: 0,
-        congestion: 0,
-    },
+    prices: AT_20,
 };
 
 // An hour of two halves, in slots 3 and 17.
