@@ -85,10 +85,8 @@ fn check_key(kind: Kind, key: &[u8; KEY], place: usize) -> Result<(), FileFault>
 {
     match kind {
         Kind::Posting | Kind::Withdrawal => check_zero(&key[3..4], place + 3),
-        Kind::Schedule | Kind::Reading | Kind::ReadingWithdrawn => check_zero(
-            &key[2..4],
-            place + 2,
-        ),
+        // No other kind names a slot.
+        _ => check_zero(&key[2..4], place + 2),
     }
 }
 
@@ -105,8 +103,8 @@ fn check_body(kind: Kind, body: &[u8; BODY], place: usize) -> Result<(), FileFau
     }
 }
 
-// The call of an entry, by its key and its body, which stand at these places of the file. A fault of the key comes before
-// one of the body.
+// The call of an entry, by its key and its body, which stand at these places of the file. A fault of the key comes
+// before one of the body.
 fn change_of(
     key: &[u8; KEY],
     body: &[u8; BODY],

@@ -7,8 +7,8 @@ ghost use Rattle.listing.specs.Texts.{text, HasRoom};
 use arrayvec::ArrayVec;
 use itoa::{Buffer, Integer};
 
-// One line of text, kept with no heap. There is room for seven numbers of 20 bytes each, which is what the largest take, a
-// word or a letter beside them, and what parts them.
+// One line of text, kept with no heap. There is room for seven numbers of 20 bytes each, which is what the largest take,
+// a word or a letter beside them, and what parts them.
 #[derive(Drop)]
 pub struct Line {
     bytes: ArrayVec<u8, 160>,

@@ -12,7 +12,8 @@ fn heading() -> &'static [u8]
     b"HOUR,STATE,DAY_AHEAD,ENERGY,LOSS,CONGESTION,SPIN,TOTAL\n"
 }
 
-// Lays bytes into memory from a place on, touches nothing else, and answers the place after them.
+// Lays bytes into memory from a place on, touches nothing else, and answers the place after them. A struct of memory
+// and place would be no plainer: three calls hand the place on.
 fn lay(out: &mut [u8], at: usize, bytes: &[u8]) -> usize
     requires { at + length bytes.now ≤ length out.old }
     ensures place { result ≡ at + length bytes.now }

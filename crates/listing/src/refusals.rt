@@ -7,6 +7,7 @@ use crate::line::Line;
 use book::Layer;
 use day_file::FileFault;
 
+// Layer and u8 are of other crates, so there can be no From between them here.
 fn letter(layer: Layer) -> u8
     ensures { result ≡ layer_letter layer }
 {

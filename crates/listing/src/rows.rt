@@ -23,6 +23,7 @@ fn columns(ahead: &Amounts, balancing: &Amounts, spin: i64, total: i64) -> [i64;
     ]
 }
 
+// State and u8 are of other crates, so there can be no From between them here.
 fn letter(state: State) -> u8
     ensures { result ≡ state_letter state }
 {
