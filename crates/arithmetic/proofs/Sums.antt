@@ -2,11 +2,11 @@
 use Rattle.std.proofs.Common.{◌≡◌, ℕ, zero, suc, ◌+◌, ◌*◌, ◌<◌, ◌≤◌, List, [], ◌∷◌, ◌++◌, length, get_or, take, drop, set, ℤ, pos, ◌+ℤ◌, ◌-ℤ◌, ◌*ℤ◌, neg_ℤ, nat_abs, ◌≤ℤ◌, Some, None, sum_by, Option, sym, refl, ap, ◌∙◌, subst, arith}
 use lib.IntN.{+ℤ_assoc, *ℤ-zero}
 use borrow.Author.Differences.{ints}
-use Rattle.std.specs.List.{flat_map, All, AllByRecursion, Contains}
+use Rattle.std.specs.List.{flat_map, All, Contains}
 use Rattle.std.specs.Option.{option_to_list}
 use Rattle.std.proofs.lemmas.List.{take_more, flat_map_more, take-append-drop, set_split}
 use Rattle.std.proofs.lemmas.List.Concat.{flat_map-append}
-use Rattle.std.proofs.lemmas.List.Elements.{All-tail, All-from_recursion, Contains-append_left, Contains-push}
+use Rattle.std.proofs.lemmas.List.Elements.{All-tail, Contains-append_left, Contains-push}
 use Rattle.std.proofs.lemmas.List.Sums.{sum_by-cons}
 use Rattle.arithmetic.specs.Sums.{sum_ℤ}
 use Rattle.arithmetic.proofs.Ring.{int, ◌:+◌, ◌:-◌, ◌:*◌, ◌times◌, ring}
@@ -94,10 +94,6 @@ pub sum_ℤ-le : {A : Type 0} (f : A → ℤ) (n : ℕ) (xs : List A) → All (�
 unfolding sum_ℤ
 sum_ℤ-le f n [] h = omega arith
 sum_ℤ-le f n (x ∷ xs) h = omega (arith, abs_sum (f x) (sum_ℤ f xs), h 0 x (omega arith), sum_ℤ-le f n xs (All-tail (λ x. nat_abs (f x) ≤ n) x xs h))
-
--- The same from the fact by recursion.
-pub sum_ℤ_size : {A : Type 0} (f : A → ℤ) (n : ℕ) (xs : List A) → AllByRecursion (λ x. nat_abs (f x) ≤ n) xs → nat_abs (sum_ℤ f xs) ≤ length xs * n
-sum_ℤ_size f n xs h = sum_ℤ-le f n xs (All-from_recursion (λ x. nat_abs (f x) ≤ n) xs h)
 
 -- No more stands than there are places.
 pub standing_length : {A : Type 0} (xs : List (Option A)) → length (flat_map option_to_list xs) ≤ length xs

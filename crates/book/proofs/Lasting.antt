@@ -1,6 +1,7 @@
 -- What was last put, and not taken away since, by what each change does.
 use Rattle.std.proofs.Common.{◌≡◌, ℕ, Bool, true, false, cond, ◌&&◌, eqb, List, [], ◌∷◌, ◌++◌, ℤ, Some, None, Option, sym, refl, ap, ◌∙◌, subst, inl, inr, arith}
-use Rattle.std.specs.List.{AllByRecursion as All}
+use Rattle.std.specs.List.{All}
+use Rattle.std.proofs.lemmas.List.Elements.{All-nil, All-cons, All-head, All-tail}
 use Rattle.std.proofs.lemmas.Bool.{and_parts, and_from, eqb-true, eq-eqb}
 use Rattle.settlement.specs.declared.figures.Interval.{Interval}
 use Rattle.settlement.specs.declared.figures.Schedule.{Schedule}
@@ -34,17 +35,17 @@ module _ {X W : Type 0} (kept : List Change → Option X) (says : W → Option X
         by : (o : Option W) → told c ≡ o → next says o (kept log) ≡ Some x → (kept log ≡ Some x → Last Kind (made p) log) → Last Kind (made p) (c ∷ log)
         by None at e before =
             let earlier = before e in
-            (c ∷ earlier.0, earlier.1, ap (λ l. c ∷ l) earlier.2, (untold c at, earlier.3))
-        by (Some w) at e before = ([], log, ap (λ d. d ∷ log) (t.is c w at ∙ ap made (only w e)), tt)
+            (c ∷ earlier.0, earlier.1, ap (λ l. c ∷ l) earlier.2, All-cons (λ d. Kind d → ⊥) c earlier.0 (untold c at) earlier.3)
+        by (Some w) at e before = ([], log, ap (λ d. d ∷ log) (t.is c w at ∙ ap made (only w e)), All-nil (λ d. Kind d → ⊥))
 
     from : (newer older : List Change) → All (λ d. Kind d → ⊥) newer → kept (newer ++ made p ∷ older) ≡ Some x
     from [] older all = t.more (made p) older ∙ ap (λ o. next says o (kept older)) (t.made_is p) ∙ put
     from (c ∷ newer) older all =
-        t.more c (newer ++ made p ∷ older) ∙ ap (λ o. next says o (kept (newer ++ made p ∷ older))) (idle (told c) refl) ∙ from newer older all.1
+        t.more c (newer ++ made p ∷ older) ∙ ap (λ o. next says o (kept (newer ++ made p ∷ older))) (idle (told c) refl) ∙ from newer older (All-tail (λ d. Kind d → ⊥) c newer all)
       where
         idle : (o : Option W) → told c ≡ o → told c ≡ None
         idle None at = at
-        idle (Some w) at = absurd (all.0 (subst Kind (sym (t.is c w at)) (of_kind w)))
+        idle (Some w) at = absurd (All-head (λ d. Kind d → ⊥) c newer all (subst Kind (sym (t.is c w at)) (of_kind w)))
 
     pub last_is : (log : List Change) → Exactly (kept log ≡ Some x) (Last Kind (made p) log)
     last_is log = (to log, λ l. ap kept l.2 ∙ from l.0 l.1 l.3)

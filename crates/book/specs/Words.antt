@@ -1,6 +1,6 @@
 -- The book in other words.
 use Rattle.std.specs.Prelude.{◌≡◌, ℕ, ◌+◌, ◌≤◌, ◌⊎◌, List, [], ◌∷◌, ◌++◌, ℤ, Some}
-use Rattle.std.specs.List.{AllByRecursion}
+use Rattle.std.specs.List.{All}
 use Rattle.settlement.specs.declared.figures.Interval.{Interval}
 use Rattle.settlement.specs.declared.figures.Schedule.{Schedule}
 use Rattle.book.specs.declared.calls.Call.{Call}
@@ -23,7 +23,7 @@ ToReading h c = ((m : ℤ) × (c ≡ Read h m)) ⊎ (c ≡ Unread h)
 
 -- A change was accepted, and none of its kind since.
 abbrev pub Last : (Change → Type 0) → Change → List Change → Type 0
-Last Kind c log = (newer : List Change) × (older : List Change) × (log ≡ newer ++ c ∷ older) × AllByRecursion (λ d. Kind d → ⊥) newer
+Last Kind c log = (newer : List Change) × (older : List Change) × (log ≡ newer ++ c ∷ older) × All (λ d. Kind d → ⊥) newer
 
 -- One exactly if the other.
 abbrev pub Exactly : Type 0 → Type 0 → Type 0

@@ -8,7 +8,7 @@ use std::alloc::{AllocError, AllocFailed};
 
 // The day: how many hours it has, the edition it is settled under (0 older, 1 newer), and the region of the unit (0 East,
 // 1 West). The values are as the file has them: writing refuses others.
-#[derive(Clone, Copy)]
+#[derive(Clone, Copy, PartialEq, Eq, Debug)]
 pub struct Header {
     pub hours: u8,
     pub edition: u8,
@@ -23,7 +23,7 @@ pub struct Day {
 }
 
 // Why no day was read: the file is refused, or there was no memory for its calls.
-#[derive(Clone, Copy)]
+#[derive(Clone, Copy, PartialEq, Eq, Debug)]
 pub enum ReadError {
     Refused(FileFault),
     NoMemory,

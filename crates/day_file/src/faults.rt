@@ -6,7 +6,7 @@ ghost use Rattle.day_file.specs.Faults.{report as report_of, place as place_of};
 use book::{Fault, Layer, Report};
 
 // The first thing that is wrong, with its place in the file.
-#[derive(Clone, Copy)]
+#[derive(Clone, Copy, PartialEq, Eq, Debug)]
 pub enum FileFault {
     // The file is not as long as its header says, or too short for a header: its length.
     Length(usize),

@@ -37,12 +37,9 @@ fn small_day(heap: Global) -> Result<Day, Fail> {
     }
 }
 
-// The number and the place that a refusal tells, and zeros for none.
-fn told(fault: Option<FileFault>) -> (u8, usize) {
-    match fault {
-        Some(fault) => (fault.report().number, fault.place()),
-        None => (0, 0),
-    }
+// The number and the place that a refusal tells.
+fn told(fault: Option<FileFault>) -> Option<(u8, usize)> {
+    fault.map(|fault| (fault.report().number, fault.place()))
 }
 
 fn read_fault(heap: Global, bytes: &[u8]) -> Option<FileFault> {
@@ -141,7 +138,7 @@ fn a_fault_is_told_with_its_place(rt: HostRuntime) {
         if at < bytes.len() {
             bytes[at] = value;
         }
-        assert_eq!(rt; told(read_fault(rt.alloc(), &bytes)), (number, place));
+        assert_eq!(rt; told(read_fault(rt.alloc(), &bytes)), Some((number, place)));
     }
 }
 
@@ -151,33 +148,33 @@ fn the_first_fault_is_told(rt: HostRuntime) {
     // The second key, and before it the first body.
     bytes[10] = 0;
     bytes[38] = 1;
-    assert_eq!(rt; told(read_fault(rt.alloc(), &bytes)), (19, 38));
+    assert_eq!(rt; told(read_fault(rt.alloc(), &bytes)), Some((19, 38)));
     // The first key comes before its body.
     bytes[9] = 1;
-    assert_eq!(rt; told(read_fault(rt.alloc(), &bytes)), (19, 9));
+    assert_eq!(rt; told(read_fault(rt.alloc(), &bytes)), Some((19, 9)));
     // The header comes before all entries.
     bytes[3] = 1;
-    assert_eq!(rt; told(read_fault(rt.alloc(), &bytes)), (17, 3));
+    assert_eq!(rt; told(read_fault(rt.alloc(), &bytes)), Some((17, 3)));
 }
 
 #[test]
 fn a_file_has_at_most_a_thousand_entries(rt: HostRuntime) {
-    assert_eq!(rt; told(read_fault(rt.alloc(), &[24, 0, 1, 0, 0])), (16, 5));
+    assert_eq!(rt;
+        told(read_fault(rt.alloc(), &[24, 0, 1, 0, 0])),
+        Some((16, 5))
+    );
     assert_eq!(rt;
         told(read_fault(rt.alloc(), &[24, 0, 1, 0, 3, 232])),
-        (16, 6)
+        Some((16, 6))
     );
     assert_eq!(rt;
         told(read_fault(rt.alloc(), &[24, 0, 1, 0, 3, 233])),
-        (17, 4)
+        Some((17, 4))
     );
 }
 
 fn write_fault(header: Header, out: &mut [u8]) -> Option<FileFault> {
-    match write(&header, &[Change::Unread { hour: 4 }], out) {
-        Ok(_) => None,
-        Err(fault) => Some(fault),
-    }
+    write(&header, &[Change::Unread { hour: 4 }], out).err()
 }
 
 #[test]
@@ -195,7 +192,7 @@ fn a_refused_day_leaves_memory_alone(rt: HostRuntime) {
             region,
         };
         let mut out = [9; 57];
-        assert_eq!(rt; told(write_fault(header, &mut out)), (number, place));
+        assert_eq!(rt; told(write_fault(header, &mut out)), Some((number, place)));
         assert!(rt; out == [9; 57]);
     }
 }

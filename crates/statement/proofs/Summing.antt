@@ -1,13 +1,13 @@
 -- The line of a day, summed row after row.
 use Rattle.std.proofs.Common.{◌≡◌, ℕ, ◌+◌, ◌*◌, ◌^◌, ◌<◌, ◌≤◌, true, ◌&&◌, leb, List, [], ◌∷◌, ◌++◌, length, get_or, take, ℤ, ◌+ℤ◌, nat_abs, sum_by, sym, ap, ◌∙◌, subst, mul-le-mul_right, arith, lit<, lit≤, w64, to_z, of_z}
-use Rattle.std.specs.List.{AllByRecursion as All}
+use Rattle.std.specs.List.{All}
 use Rattle.std.proofs.lemmas.List.{take_more, get_or-take, length-take}
-use Rattle.std.proofs.ByRecursion.{All-weaker, All-from_get_or, sum_by_le}
-use Rattle.std.proofs.lemmas.List.Sums.{sum_by_push}
+use Rattle.std.proofs.lemmas.List.Elements.{All-weaker, All-from_get_or}
+use Rattle.std.proofs.lemmas.List.Sums.{sum_by-le, sum_by_push}
 use Rattle.std.proofs.lemmas.Bool.{and_parts, leb-true}
 use Rattle.arithmetic.specs.Sums.{sum_ℤ}
 use Rattle.arithmetic.proofs.Machine.{Holds, holds, whole, back, plus}
-use Rattle.arithmetic.proofs.Sums.{sum_ℤ-push, sum_ℤ_size}
+use Rattle.arithmetic.proofs.Sums.{sum_ℤ-push, sum_ℤ-le}
 use Rattle.settlement.specs.declared.figures.Amounts.{Amounts}
 use Rattle.settlement.specs.declared.figures.HourLine.{HourLine}
 use Rattle.settlement.specs.Bounds.{is_small, is_small_amounts, is_small_line, is_short_line}
@@ -76,10 +76,10 @@ Tame r = is_day_part r.line ≡ true
 
 module _ (rows : List Row) (few : length rows ≤ 24) where
   sum_room : (f : Row → ℤ) → All (λ r. nat_abs (f r) ≤ 2 ^ 47) rows → nat_abs (sum_ℤ f rows) ≤ 24 * 2 ^ 47
-  sum_room f all = omega (arith, sum_ℤ_size f (2 ^ 47) rows all, mul-le-mul_right (2 ^ 47) few)
+  sum_room f all = omega (arith, sum_ℤ-le f (2 ^ 47) rows all, mul-le-mul_right (2 ^ 47) few)
 
   count_room : (f : Row → ℕ) (m : ℕ) → All (λ r. f r ≤ m) rows → sum_by f rows ≤ 24 * m
-  count_room f m all = omega (arith, sum_by_le f m rows all, mul-le-mul_right m few)
+  count_room f m all = omega (arith, sum_by-le f m rows all, mul-le-mul_right m few)
 
   amounts_room : (f : Row → Amounts) → All (λ r. is_small_amounts (f r) ≡ true) rows → AmountsRoom (amounts_of f rows) 24
   amounts_room f all =
