@@ -16,9 +16,9 @@ CRATE, FILE = "statement_tests", "src/locking.rt"
 # What is tried, what it replaces, what stands in its place, and the compiler's reason.
 TRIES = (
     ("posting to a locked statement", "Ok(locked.day_line())",
-     "locked.post(store, 3, 0, &crate::figures::RECORD)?; Ok(locked.day_line())", "no method named `post` found for type `Locked`"),
+     "locked.post(store, 3, 0, &samples::FIVE_MINUTES)?; Ok(locked.day_line())", "no method named `post` found for type `Locked`"),
     ("a statement used after it was locked", "Ok(locked.day_line())",
-     "statement.schedule(store, 3, &ROW)?; Ok(locked.day_line())", "borrow of moved value: `statement`"),
+     "statement.schedule(store, 3, &SOLD)?; Ok(locked.day_line())", "borrow of moved value: `statement`"),
     ("a statement copied", "let locked = statement.lock();",
      "let copy = statement; let locked = statement.lock();", "use of moved value: `statement`"),
     ("a statement cloned", "let locked = statement.lock();",
