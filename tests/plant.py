@@ -5,6 +5,7 @@
     python3 tests/plant.py record_store     those of one crate
     python3 tests/plant.py record_store second_place
     python3 tests/plant.py --listed         those of tests/plantings.txt alone, --listed=CRATE of one crate
+    python3 tests/plant.py --table          prints the table of docs/ASSURANCE.md, and plants nothing
 
 A planting is a block of lines `crate:`, `name:`, `file:`, `old:` (standing once in the file) and `new:`, the last two as
 often as need be; a must-fail edit has the same lines without the first two. What earlier checks on this machine kept serves
@@ -48,6 +49,20 @@ def replacements(text):
     return found
 
 
+def table():
+    """The rows of docs/ASSURANCE.md: the must-fail edits of a crate, then its other plantings."""
+    order = [line.split(":")[0] for line in (ROOT / "crates.txt").read_text().splitlines() if not line.startswith("#")]
+    gate = {(crate, name): changes for crate, name, changes in edits()}
+    others = {(crate, name): changes for crate, name, changes in listed() if (crate, name) not in gate}
+    rows = [(order.index(crate), yes != "yes", name, crate, yes, changes)
+            for yes, some in (("yes", gate), ("", others)) for (crate, name), changes in some.items()]
+    for _, _, name, crate, yes, changes in sorted(rows):
+        shown = [[text.replace("|", "\\|").strip() for text in (file.removeprefix("src/"), old, new)] for file, old, new in changes]
+        cells = [" ".join(dict.fromkeys(f"`{file}`" for file, _, _ in shown))]
+        cells += ["; ".join(f"`{row[i]}`" for row in shown) for i in (1, 2)]
+        print(f"| `{crate}` | {name} | {yes} | " + " | ".join(cells) + " |")
+
+
 def first_error(out):
     """The first line that tells why a check failed."""
     for pattern in (r"error.*", r"no proof:.*", r"note: .*is to show.*"):
@@ -75,6 +90,8 @@ def plant(copy, crate, changes):
 
 def main():
     words = sys.argv[1:]
+    if words == ["--table"]:
+        return table()
     only = bool(words) and words[0].startswith("--listed")
     crate = words[0].partition("=")[2] if only else "".join(words[:1])
     every = list(listed()) if only else list(edits()) + list(listed())
