@@ -37,6 +37,7 @@ pub enum Fault {
     InStore(StoreFault),
 }
 
+// By hand, so that clauses know which fault `?` makes of an error.
 impl From<UnknownRegion> for Fault {
     ghost from_gives = { λ _ r. r ≡ BadRegion };
 

@@ -7,7 +7,7 @@ use book::Change;
 use std::alloc::{AllocError, AllocFailed};
 
 // The day: how many hours it has, the edition it is settled under (0 older, 1 newer), and the region of the unit (0 East,
-// 1 West). The values are as the file has them: writing refuses others.
+// 1 West). The values are bytes, as the file has them, since writing refuses bad ones by their place.
 #[derive(Clone, Copy, PartialEq, Eq, Debug)]
 pub struct Header {
     pub hours: u8,
@@ -29,6 +29,7 @@ pub enum ReadError {
     NoMemory,
 }
 
+// By hand, these three, so that clauses know what `?` makes of an error.
 impl From<FileFault> for ReadError {
     ghost from_gives = { λ fault r. r ≡ refused_by fault };
 

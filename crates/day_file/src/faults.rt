@@ -22,6 +22,7 @@ pub enum FileFault {
     InStatement(Fault),
 }
 
+// By hand, so that clauses know which fault `?` makes of the statement's.
 impl From<Fault> for FileFault {
     ghost from_gives = { λ fault r. r ≡ InStatement fault };
 

@@ -58,6 +58,7 @@ pub fn day_page<S: Store>(heap: Global, bytes: &[u8], store: &mut S) -> Result<V
     ensures { MatchResult result (λ page. PageOf (S.Store.means store.old) (S.Store.means store.new) bytes.now page.items) (NoPage (S.Store.means store.old) (S.Store.means store.new) bytes.now) }
 {
     let day = read(heap, bytes)?;
+    // A header has bytes, as the file does; of those that were read this one is 0 or 1.
     match day.header.edition {
         0 => page_under(heap, Older, &day.header, day.calls.as_slice(), store),
         _ => page_under(heap, Newer, &day.header, day.calls.as_slice(), store),

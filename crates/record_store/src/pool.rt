@@ -22,6 +22,7 @@ pub struct Pool<'a> {
     ghost once: { (d : Place Interval) → Once d (contents shelf) },
 }
 
+// Made as a journal is: a trait for both would have to name the lifetime of the memory, and be no shorter.
 impl<'a> Pool<'a> {
     // An empty pool with as many places as are lent, or none where a store may not have so many.
     pub fn over(places: &'a mut [Place<Interval>]) -> Pool<'a>

@@ -8,7 +8,7 @@ use settlement::Interval;
 use std::array;
 
 // A store of interval records, one for each slot of each hour. Each call's answer, and the store after it, are told by
-// what the store means.
+// what the store means. Hour and slot are any two bytes, which a call refuses by name; `Key` is for those that exist.
 pub trait Store {
     ghost means: { Self → Meaning };
 

@@ -46,6 +46,7 @@ fn run(rt: &HostRuntime) -> anyhow::Result<()> {
     let places = usize::from(places.as_str().parse::<u16>()?);
     let times = times.as_str().parse::<u16>()?;
     let what = what.as_str();
+    // A kind of store borrows its memory, so that each is made where it is used.
     let done = if kind.as_str() == "pool" {
         let mut places = Vec::from_elem(rt.alloc(), Place::default(), places)?;
         run_task(&mut Pool::over(places.as_mut_slice()), what, times)

@@ -3,6 +3,7 @@ use book::{Answer, Call, Change, DayLine, Entry, Fault};
 use samples::{print_amounts, print_figures, print_line, print_totals};
 use std::io;
 
+// The words are this program's own, so that calls and faults print none themselves.
 fn print_day(rt: &HostRuntime, day: &DayLine) -> io::Result<()> {
     println!(rt;
         "  {} settled, {} intervals, {} seconds",

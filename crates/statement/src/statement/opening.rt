@@ -23,6 +23,7 @@ fn any_stands<S: Store>(store: &S, hour: u8) -> bool
 fn is_occupied<S: Store>(store: &S) -> bool
     ensures { result ≡ not (count (S.Store.means store.now).standing == 0) }
 {
+    // Not `any`: a closure that calls a store through its trait leaves the proof knowing nothing of the answer.
     for hour in 0..25u8 {
         if any_stands(store, hour) {
             return true;
