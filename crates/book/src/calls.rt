@@ -51,8 +51,8 @@ pub enum Answer {
     Day(DayLine),
 }
 
-// A call of a log, with its answer once it has run. Until then the answer is whatever was put there: an option would have to
-// be opened by everyone who reads a log that has run.
+// A call of a log, with its answer once it has run. Until then the answer is whatever was put there: an option would have
+// to be opened by everyone who reads a log that has run.
 #[derive(Clone, Copy, PartialEq, Eq, Debug)]
 pub struct Entry {
     pub call: Call,

@@ -96,7 +96,7 @@ fn tell(number: u8, hour: u8, slot: u8) -> Report
 }
 
 impl Fault {
-    // Its layer, number, hour and slot; hour and slot are 0 where the call names none.
+    // Its layer, number, hour and slot; hour and slot are told as 0 where the call names none.
     pub fn report(self) -> Report
         ensures { result ≡ report_of self }
     {

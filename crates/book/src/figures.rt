@@ -23,8 +23,8 @@ pub struct DayLine {
     pub total: i64,
 }
 
-// The rows of a day, as many as the longest day has hours, and the day's line. (Rows in place, since nothing below the file
-// takes memory from a heap.)
+// The rows of a day, as many as the longest day has hours, and the day's line. (Rows in place, since nothing below the
+// file takes memory from a heap.)
 #[derive(Clone, Copy, PartialEq, Eq, Debug)]
 pub struct Table {
     pub hours: u8,

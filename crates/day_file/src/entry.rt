@@ -104,7 +104,7 @@ fn check_body(kind: Kind, body: &[u8; BODY], place: usize) -> Result<(), FileFau
 }
 
 // The call of an entry, by its key and its body, which stand at these places of the file. A fault of the key comes
-// before one of the body.
+// before one of the body. (Bytes and their place are two parameters: a pair of them would be taken apart at each call.)
 fn change_of(
     key: &[u8; KEY],
     body: &[u8; BODY],

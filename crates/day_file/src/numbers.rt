@@ -32,6 +32,7 @@ pub(crate) fn words_in<const N: usize>(bytes: &[u8]) -> [i32; N]
     ensures fit { All (FitsSigned w32) result }
 {
     let mut numbers = [0; N];
+    // Not `array::from_fn`, of which the library says too little to prove either clause.
     for (k, number) in numbers.iter_mut().enumerate() {
         *number = word_at(bytes, 4 * k);
     }

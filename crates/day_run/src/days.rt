@@ -15,8 +15,8 @@ const POOL_PLACES: usize = 600;
 
 const JOURNAL_PLACES: usize = 1_000;
 
-// The page of a day file over a pool. (One function generic over the kind of store would need a type with a lifetime for
-// its argument, since a store borrows its places.)
+// The page of a day file over a pool. (One function generic over the kind of store would need a type with a lifetime
+// for its argument, since a store borrows its places.)
 fn pool_page(heap: Global, bytes: &[u8]) -> Result<Vec<u8>, ReadError>
     ensures { MatchResult result (λ page. FirstPage 600 0 bytes.now page.items) (NoFirstPage bytes.now) }
 {

@@ -1,5 +1,5 @@
 // The entries of a file, each a call of the statement. A refused entry is noted on the page and does not stop the run.
-// Statement and store stay two parameters, as at the statement's own calls.
+// Statement and store are two parameters, as at the statement's own calls, since the store is lent and outlives the day.
 ghost use Rattle.std.specs.Prelude.{◌≡◌, ◌≤◌, ◌++◌, length, OnOk};
 ghost use Rattle.book.specs.declared.calls.Call.TheVariants.{Make};
 ghost use Rattle.book.specs.Outcome.{view, answer, after};

@@ -33,7 +33,8 @@ fn letter(state: State) -> u8
     }
 }
 
-// The line of an hour; it is left blank where nothing was sold for the hour, so that the listing has no such row.
+// The line of an hour; it is left blank where nothing was sold for the hour, so that the listing has no such row. (No
+// option: a blank line adds nothing to a listing, and need not be looked at.)
 pub(crate) fn hour_row(hour: usize, row: &Row) -> Line
     ensures { text result ≡ hour_row hour row.now }
 {

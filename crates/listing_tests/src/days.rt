@@ -3,9 +3,16 @@ use day_file::FileFault;
 use listing::{list, listing_length};
 use record_store::{Place, Pool, Store};
 use samples::{FIVE_MINUTES, SOLD};
-use settlement::Newer;
+use settlement::{Interval, Newer};
 use statement::{Locked, Statement};
 use std::test::Fail;
+
+// Memory that held something before.
+const PLACE: Place<Interval> = Place {
+    hour: 0,
+    slot: 0,
+    content: FIVE_MINUTES,
+};
 
 const EMPTY_DAY: &[u8] =
     b"HOUR,STATE,DAY_AHEAD,ENERGY,LOSS,CONGESTION,SPIN,TOTAL\nDAY,0,0,0,0,0,0,0\n";
@@ -40,7 +47,7 @@ fn prints(locked: &Locked, out: &mut [u8], expected: &[u8]) -> Result<(), Fail> 
 
 #[test]
 fn an_empty_day_has_a_heading_and_a_day_row(rt: HostRuntime) -> Result<(), Fail> {
-    let mut places = [Place::default(); 24];
+    let mut places = [PLACE; 24];
     let pool = Pool::over(&mut places);
     let Ok(statement) = Statement::open(Newer, 24, 0, &pool) else {
         return Err(Fail::new("not opened"));
@@ -53,7 +60,7 @@ fn an_empty_day_has_a_heading_and_a_day_row(rt: HostRuntime) -> Result<(), Fail>
 
 #[test]
 fn memory_that_is_too_short_is_left_as_it_was(rt: HostRuntime) -> Result<(), Fail> {
-    let mut places = [Place::default(); 24];
+    let mut places = [PLACE; 24];
     let pool = Pool::over(&mut places);
     let Ok(statement) = Statement::open(Newer, 24, 0, &pool) else {
         return Err(Fail::new("not opened"));
@@ -66,7 +73,7 @@ fn memory_that_is_too_short_is_left_as_it_was(rt: HostRuntime) -> Result<(), Fai
 
 #[test]
 fn an_hour_that_was_sold_has_a_row() -> Result<(), Fail> {
-    let mut places = [Place::default(); 24];
+    let mut places = [PLACE; 24];
     let mut pool = Pool::over(&mut places);
     let Ok(locked) = settled_day(&mut pool) else {
         return Err(Fail::new("refused"));

@@ -1,14 +1,17 @@
 -- A pool: one record rewritten, one more, and one less.
-use Rattle.std.proofs.Common.{◌≡◌, ℕ, ◌+◌, ◌-◌, ◌<◌, cond, ◌&&◌, eqb, length, pos, Some, None, Option, sym, refl, ◌∙◌, subst}
+use Rattle.std.proofs.Common.{◌≡◌, ℕ, ◌+◌, ◌-◌, ◌<◌, cond, ◌&&◌, eqb, length, pos, Some, None, Option, Ok, Err, Result, MatchResult, sym, refl, ap, ◌∙◌, subst, arith}
 use mathlib.Core.Path.{fun_ext}
 use Rattle.std.proofs.lemmas.List.{length-set}
+use Rattle.std.proofs.lemmas.Bool.{lt-ltb, le-ltb}
+use Rattle.settlement.specs.Rulings.{ruled, changed}
+use Rattle.record_store.specs.declared.faults.StoreFault.{StoreFault}
 use Rattle.settlement.specs.declared.figures.Interval.{Interval}
 use Rattle.record_store.specs.declared.places.Place.{Place}
 use Rattle.record_store.specs.declared.key.Key.{Key}
 use Rattle.record_store.specs.declared.pool.Pool.{Pool}
-use Rattle.record_store.specs.Meaning.{Meaning, bounded, rewritten}
+use Rattle.record_store.specs.Meaning.{Meaning, bounded, full_refused, rewritten}
 use Rattle.record_store.specs.Contents.{contents}
-use Rattle.record_store.specs.Shelves.{Contents, held, key, named, laid, pushed, removed, Once}
+use Rattle.record_store.specs.Shelves.{Contents, held, key, named, laid, pushed, Pushed, Unpushed, removed, Once}
 use Rattle.record_store.specs.Pools.{pool_means}
 use Rattle.record_store.proofs.Shelves.{Sound, Suits, laid_to, laid_held, suits_next, suits_again, sound_of, one_place, no_place}
 use Rattle.record_store.proofs.Removing.{Indexed, once, indexed, laid_indexed, same_removed, left_once, left_held}
@@ -77,6 +80,22 @@ module _ (p : Pool) (k : Key) where
   pub added : (i : Interval) → named before (key k.hour k.slot) ≡ None → p.shelf.used < length p.shelf.places.now → Becomes (pushed before (entry k i)) (rewritten (pool_means before) k.hour k.slot (Some i) (p.shelf.used + 1))
   added i f l =
       laid_becomes p.shelf.used (p.shelf.used + 1) i (suits_next (entry k i) before (sound (entry k i)) (entry k i) k.hours k.slots l) (λ q e. absurd (no_place q (sym f ∙ e)))
+
+  -- So it is where there is room; and where there is none, the store is full and as it was.
+  pub record Adds (i : Interval) (r : Result (Unit {0}) StoreFault) (after : Contents Interval) : Type 0 where
+    pub once : (d : Place Interval) → Once d after
+    pub answer : r ≡ ruled (full_refused (pool_means before) k.hour k.slot) tt
+    pub means : pool_means after ≡ changed (full_refused (pool_means before) k.hour k.slot) (rewritten (pool_means before) k.hour k.slot (Some i) (p.shelf.used + 1)) (pool_means before)
+
+  pub adds : (i : Interval) (r : Result (Unit {0}) StoreFault) (after : Contents Interval) → named before (key k.hour k.slot) ≡ None
+      → MatchResult r (Pushed before (entry k i) after) (Unpushed before k.hour k.slot after) → Adds i r after
+  adds i (Ok done) after f (room, is) =
+      let b = becomes (pushed before (entry k i)) after _ is (added i f room) in
+      let fits = le-ltb (length p.shelf.places.now) (p.shelf.used + 1) (omega arith) in
+      record { once = b.once; answer = rw fits refl; means = rw fits b.means }
+  adds i (Err fault) after f (full, told, is) =
+      let over = lt-ltb (length p.shelf.places.now) (p.shelf.used + 1) (omega arith) in
+      record { once = subst (λ c. (d : Place Interval) → Once d c) (sym is) p.once; answer = rw over (ap Err told); means = rw over (ap pool_means is) }
 
   -- A record less, with the last one in its place.
   pub reduced : (d : Place Interval) (at : ℕ) → named before (key k.hour k.slot) ≡ Some at → Becomes (removed d before at k.hour k.slot) (rewritten (pool_means before) k.hour k.slot None (p.shelf.used - 1))

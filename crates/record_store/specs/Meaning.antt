@@ -49,6 +49,10 @@ is_full m n = nat_lt m.capacity (m.spent + n)
 abbrev pub slot_refused : ℕ → ℕ → Option StoreFault
 slot_refused hour slot = cond (nat_lt hour 25) (cond (nat_lt slot 24) None (Some (Slot hour slot))) (Some (Hour hour slot))
 
+-- What refuses one more that costs 1.
+abbrev pub full_refused : Meaning → ℕ → ℕ → Option StoreFault
+full_refused m hour slot = cond (is_full m 1) (Some (Full hour slot)) None
+
 -- What refuses a write.
 abbrev pub write_refused : Meaning → ℕ → ℕ → Option StoreFault
 write_refused m hour slot = first (slot_refused hour slot) (cond (is_full m (cost m hour slot)) (Some (Full hour slot)) None)

@@ -1,5 +1,7 @@
 -- Lent places with an index: what they hold, and what the index keeps.
-use Rattle.std.specs.Prelude.{◌≡◌, ℕ, ◌+◌, ◌-◌, ◌*◌, ◌<◌, ◌≤◌, List, get_or, take, replicate, Some, None, Option, slice_index_or, slice_set}
+use Rattle.std.specs.Prelude.{◌≡◌, ℕ, ◌+◌, ◌-◌, ◌*◌, ◌<◌, ◌≤◌, List, get_or, length, take, replicate, Some, None, Option, slice_index_or, slice_set}
+use Rattle.record_store.specs.declared.faults.StoreFault.{StoreFault}
+use Rattle.record_store.specs.declared.faults.StoreFault.TheVariants.{Full}
 use Rattle.record_store.specs.declared.places.Place.{Place}
 use Rattle.record_store.specs.Places.{latest}
 
@@ -36,6 +38,13 @@ laid c at new = record { index = slice_set c.index (key_of new) (Some at); place
 -- A record laid into the first place that is not in use.
 abbrev pub pushed : {T : Type 0} → Contents T → Place T → Contents T
 pushed c new = record { index = slice_set c.index (key_of new) (Some c.used); places = slice_set c.places c.used new; used = c.used + 1 }
+
+-- What is left where a record finds a place that is not in use, and where it finds none.
+abbrev pub Pushed : {T : Type 0} → Contents T → Place T → Contents T → Unit {0} → Type 0
+Pushed old new after done = (old.used < length old.places) × (after ≡ pushed old new)
+
+abbrev pub Unpushed : {T : Type 0} → Contents T → ℕ → ℕ → Contents T → StoreFault → Type 0
+Unpushed old hour slot after fault = (length old.places ≤ old.used) × (fault ≡ Full hour slot) × (after ≡ old)
 
 -- A slot whose place is forgotten, and one place less in use.
 abbrev pub dropped : {T : Type 0} → Contents T → ℕ → ℕ → Contents T

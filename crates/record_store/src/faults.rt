@@ -29,7 +29,7 @@ impl StoreFault {
         }
     }
 
-    // The hour that the call named, 0 where it named none.
+    // The hour that the call named, 0 where it named none: so it is told and printed.
     pub fn hour(self) -> u8
         ensures { result ≡ (figures self).hour }
     {
@@ -41,7 +41,7 @@ impl StoreFault {
         }
     }
 
-    // The slot that the call named, 0 where it named none.
+    // The slot that the call named, 0 where it named none: so it is told and printed.
     pub fn slot(self) -> u8
         ensures { result ≡ (figures self).slot }
     {

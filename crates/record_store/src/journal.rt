@@ -1,6 +1,7 @@
 // A store that only adds entries: each change to a slot is one more, and the latest for a slot counts.
 ghost use Rattle.std.specs.Prelude.{◌≡◌, ◌+◌, ◌<◌, length, Some, None, MatchResult};
-ghost use Rattle.record_store.specs.Meaning.{fresh, rewritten};
+ghost use Rattle.settlement.specs.Rulings.{ruled, changed};
+ghost use Rattle.record_store.specs.Meaning.{fresh, full_refused, rewritten};
 ghost use Rattle.record_store.specs.Places.{places_refused, capacity_of};
 ghost use Rattle.record_store.specs.Contents.{contents};
 ghost use Rattle.record_store.specs.Journals.{journal_means, journal_lawful};
@@ -36,12 +37,12 @@ impl<'a> Journal<'a> {
         Ok(Journal::over(places))
     }
 
-    // One entry more.
-    fn enter(&mut self, key: Key, entry: Option<Interval>)
-        requires { self.old.shelf.used < length self.old.shelf.places.now }
-        ensures { journal_means (contents self.new.shelf) ≡ rewritten (journal_means (contents self.old.shelf)) key.hour key.slot entry (self.old.shelf.used + 1) }
+    // One entry more, if there is room.
+    fn enter(&mut self, key: Key, entry: Option<Interval>) -> Result<(), StoreFault>
+        ensures answer { result ≡ ruled (full_refused (journal_means (contents self.old.shelf)) key.hour key.slot) tt }
+        ensures after { journal_means (contents self.new.shelf) ≡ changed (full_refused (journal_means (contents self.old.shelf)) key.hour key.slot) (rewritten (journal_means (contents self.old.shelf)) key.hour key.slot entry (self.old.shelf.used + 1)) (journal_means (contents self.old.shelf)) }
     {
-        self.shelf.push(key, entry);
+        self.shelf.push(key, entry)
     }
 }
 
@@ -56,9 +57,7 @@ impl<'a> Store for Journal<'a> {
 
     fn write(&mut self, hour: u8, slot: u8, interval: &Interval) -> Result<(), StoreFault> {
         let key = Key::new(hour, slot)?;
-        self.shelf.check_room(key)?;
-        self.enter(key, Some(*interval));
-        Ok(())
+        self.enter(key, Some(*interval))
     }
 
     fn take(&mut self, hour: u8, slot: u8) -> Result<(), StoreFault> {
@@ -66,9 +65,7 @@ impl<'a> Store for Journal<'a> {
         if self.shelf.get(key).flatten().is_none() {
             return Ok(());
         }
-        self.shelf.check_room(key)?;
-        self.enter(key, None);
-        Ok(())
+        self.enter(key, None)
     }
 
     fn spent(&self) -> usize {

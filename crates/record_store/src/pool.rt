@@ -2,7 +2,8 @@
 ghost use Rattle.std.specs.Prelude.{◌≡◌, ◌+◌, ◌-◌, ◌<◌, length, Some, None, MatchResult};
 ghost use Rattle.settlement.specs.declared.figures.Interval.{Interval};
 ghost use Rattle.record_store.specs.declared.places.Place.{Place};
-ghost use Rattle.record_store.specs.Meaning.{fresh, rewritten};
+ghost use Rattle.settlement.specs.Rulings.{ruled, changed};
+ghost use Rattle.record_store.specs.Meaning.{fresh, full_refused, rewritten};
 ghost use Rattle.record_store.specs.Places.{places_refused, capacity_of};
 ghost use Rattle.record_store.specs.Shelves.{key as key_of, named, Once};
 ghost use Rattle.record_store.specs.Contents.{contents};
@@ -41,7 +42,8 @@ impl<'a> Pool<'a> {
         Ok(Pool::over(places))
     }
 
-    // A record in the place of the one that stands in its slot.
+    // A record in the place of the one that stands in its slot. (Place and key are found together; that they belong together
+    // holds of one state of the shelf alone, and so of no type.)
     fn replace(&mut self, at: u16, key: Key, interval: &Interval)
         requires { named (contents self.old.shelf) (key_of key.hour key.slot) ≡ Some at }
         ensures { pool_means (contents self.new.shelf) ≡ rewritten (pool_means (contents self.old.shelf)) key.hour key.slot (Some interval.now) self.old.shelf.used }
@@ -49,13 +51,13 @@ impl<'a> Pool<'a> {
         self.shelf.replace(at, key, *interval);
     }
 
-    // A record more, in a slot where none stands.
-    fn add(&mut self, key: Key, interval: &Interval)
-        requires free { named (contents self.old.shelf) (key_of key.hour key.slot) ≡ None }
-        requires room { self.old.shelf.used < length self.old.shelf.places.now }
-        ensures { pool_means (contents self.new.shelf) ≡ rewritten (pool_means (contents self.old.shelf)) key.hour key.slot (Some interval.now) (self.old.shelf.used + 1) }
+    // A record more, in a slot where none stands, if there is room.
+    fn add(&mut self, key: Key, interval: &Interval) -> Result<(), StoreFault>
+        requires { named (contents self.old.shelf) (key_of key.hour key.slot) ≡ None }
+        ensures answer { result ≡ ruled (full_refused (pool_means (contents self.old.shelf)) key.hour key.slot) tt }
+        ensures after { pool_means (contents self.new.shelf) ≡ changed (full_refused (pool_means (contents self.old.shelf)) key.hour key.slot) (rewritten (pool_means (contents self.old.shelf)) key.hour key.slot (Some interval.now) (self.old.shelf.used + 1)) (pool_means (contents self.old.shelf)) }
     {
-        self.shelf.push(key, *interval);
+        self.shelf.push(key, *interval)
     }
 
     // A record less.
@@ -82,9 +84,7 @@ impl<'a> Store for Pool<'a> {
             self.replace(at, key, interval);
             return Ok(());
         }
-        self.shelf.check_room(key)?;
-        self.add(key, interval);
-        Ok(())
+        self.add(key, interval)
     }
 
     fn take(&mut self, hour: u8, slot: u8) -> Result<(), StoreFault> {

@@ -6,8 +6,8 @@ ghost use Rattle.record_store.specs.Shelves.{InUse, Indexing};
 
 use crate::places::Place;
 
-// Lent places with an index that has, for each slot, the place of its latest record. The first places are in use. (Memory
-// that the caller lends, and none from a heap.)
+// Lent places with an index that has, for each slot, the place of its latest record. The first places are in use.
+// (Memory that the caller lends, and none from a heap.)
 #[derive(Drop)]
 pub(crate) struct Shelf<'a, T> {
     pub places: &'a mut [Place<T>],

@@ -7,5 +7,5 @@ mod hours;
 mod print;
 
 pub use figures::{FIVE_MINUTES, SOLD};
-pub use hours::{operators_hour, shared_hour};
+pub use hours::{OPERATORS_HOUR, SHARED_HOUR};
 pub use print::{print_amounts, print_figures, print_heading, print_line, print_totals};

@@ -32,8 +32,8 @@ fn run_task<S: Store>(store: &mut S, what: &str, times: u16) -> usize {
     }
 }
 
-fn run(rt: &HostRuntime) -> anyhow::Result<()> {
-    let mut words = env::args(rt)?;
+fn main(rt: HostRuntime) -> anyhow::Result<()> {
+    let mut words = env::args(&rt)?;
     let _ = words.next();
     let (Some(kind), Some(places), Some(what), Some(times)) = (
         words.next(),
@@ -43,21 +43,17 @@ fn run(rt: &HostRuntime) -> anyhow::Result<()> {
     ) else {
         return Err(anyhow!("wanted: pool or journal, places, read, write or take, times"));
     };
-    let places = usize::from(places.as_str().parse::<u16>()?);
+    let count = usize::from(places.as_str().parse::<u16>()?);
     let times = times.as_str().parse::<u16>()?;
     let what = what.as_str();
     // A kind of store borrows its memory, so that each is made where it is used.
     let done = if kind.as_str() == "pool" {
-        let mut places = Vec::from_elem(rt.alloc(), Place::default(), places)?;
+        let mut places = Vec::from_elem(rt.alloc(), Place::default(), count)?;
         run_task(&mut Pool::over(places.as_mut_slice()), what, times)
     } else {
-        let mut places = Vec::from_elem(rt.alloc(), Place::default(), places)?;
+        let mut places = Vec::from_elem(rt.alloc(), Place::default(), count)?;
         run_task(&mut Journal::over(places.as_mut_slice()), what, times)
     };
     rt.println(done)?;
     Ok(())
-}
-
-fn main(rt: HostRuntime) -> anyhow::Result<()> {
-    run(&rt)
 }

@@ -9,7 +9,7 @@ use book::Entry;
 use calls::{Log, corrected_log, hour_log};
 use print::{print_entry, print_refusal, print_told};
 use record_store::{Place, Pool};
-use samples::{operators_hour, print_heading, shared_hour};
+use samples::{FIVE_MINUTES, OPERATORS_HOUR, SHARED_HOUR, print_heading};
 use settlement::{Edition, Newer, Older, Standing, worked_figures};
 use statement::Statement;
 use std::io;
@@ -21,7 +21,12 @@ fn play<E: Edition + Drop>(
     region: u8,
     log: &mut [Entry],
 ) -> io::Result<()> {
-    let mut places = [Place::default(); 24];
+    let place = Place {
+        hour: 0,
+        slot: 0,
+        content: FIVE_MINUTES,
+    };
+    let mut places = [place; 24];
     let mut pool = Pool::over(&mut places);
     match Statement::play(edition, 24, region, &mut pool, log) {
         Ok(_) => Ok(()),
@@ -67,14 +72,14 @@ fn main(rt: HostRuntime) -> io::Result<()> {
     print_hour(
         &rt,
         "50 MW sold the day before, 65 MW metered, twelve intervals, East",
-        operators_hour(),
+        OPERATORS_HOUR,
         0,
     )?;
     println!(rt; "")?;
     print_hour(
         &rt,
         "An interval of each scenario, a reading of 25,000 kWh, negative prices, West",
-        shared_hour(),
+        SHARED_HOUR,
         1,
     )?;
     println!(rt; "")?;

@@ -1,9 +1,8 @@
-// What is printed of calls and their answers.
+// What is printed of calls and their answers. The words are this program's own, so calls and faults have none to display.
 use book::{Answer, Call, Change, DayLine, Entry, Fault};
 use samples::{print_amounts, print_figures, print_line, print_totals};
 use std::io;
 
-// The words are this program's own, so that calls and faults print none themselves.
 fn print_day(rt: &HostRuntime, day: &DayLine) -> io::Result<()> {
     println!(rt;
         "  {} settled, {} intervals, {} seconds",

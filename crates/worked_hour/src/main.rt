@@ -1,7 +1,7 @@
 // Settles two hours of a station under both editions and prints what they come to, in cents.
 #![tactic(auto)]
 
-use samples::{operators_hour, print_figures, print_heading, print_line, shared_hour};
+use samples::{OPERATORS_HOUR, SHARED_HOUR, print_figures, print_heading, print_line};
 use settlement::{Edition, Hour, Newer, Older, Region, Standing, worked_figures};
 use std::io;
 
@@ -38,14 +38,14 @@ fn main(rt: HostRuntime) -> io::Result<()> {
     print_hour(
         &rt,
         "50 MW sold the day before, 65 MW metered, twelve intervals, East",
-        operators_hour(),
+        OPERATORS_HOUR,
         Region::East,
     )?;
     println!(rt; "")?;
     print_hour(
         &rt,
         "An interval of each scenario, a reading of 25,000 kWh, negative prices, West",
-        shared_hour(),
+        SHARED_HOUR,
         Region::West,
     )
 }

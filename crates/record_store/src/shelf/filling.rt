@@ -1,10 +1,9 @@
-// Filling a shelf and emptying it, a place at a time.
-ghost use Rattle.std.specs.Prelude.{◌≡◌, ◌<◌, ◌≤◌, length, take, is_some, Some, MatchResult};
-ghost use Rattle.record_store.specs.declared.faults.StoreFault.TheVariants.{Full};
+// What a shelf has, and filling it and emptying it, a place at a time.
+ghost use Rattle.std.specs.Prelude.{◌≡◌, ◌≤◌, length, take, is_some, Some, MatchResult};
 ghost use Rattle.record_store.specs.declared.places.Place.{Place};
 ghost use Rattle.record_store.specs.Meaning.{bounded};
 ghost use Rattle.record_store.specs.Places.{capacity_of};
-ghost use Rattle.record_store.specs.Shelves.{key as key_of, empty, named, held, laid, pushed, removed, Once};
+ghost use Rattle.record_store.specs.Shelves.{key as key_of, empty, named, held, laid, Pushed, Unpushed, removed, Once};
 ghost use Rattle.record_store.specs.Contents.{contents};
 
 use crate::faults::StoreFault;
@@ -12,7 +11,7 @@ use crate::key::Key;
 use crate::places::{Place, check_places};
 use crate::shelf::Shelf;
 
-// As many places as a store may have, or none.
+// As many places as a store may have, or none: a store over any other number is a store, of capacity 0.
 fn capacity(places: usize) -> usize
     ensures value { result ≡ capacity_of places }
     ensures least { result ≤ places }
@@ -67,17 +66,6 @@ impl<'a, T: Copy> Shelf<'a, T> {
         Some(self.places[at as usize].content)
     }
 
-    // Whether there is a place that is not in use.
-    pub fn check_room(&self, key: Key) -> Result<(), StoreFault>
-        ensures { MatchResult result (λ _. self.now.used < length self.now.places.now) (λ e. (length self.now.places.now ≤ self.now.used) × (e ≡ Full key.hour key.slot)) }
-    {
-        if self.used() >= self.capacity() {
-            let Key { hour, slot } = key;
-            return Err(StoreFault::Full { hour, slot });
-        }
-        Ok(())
-    }
-
     // Lays a record into the place that its slot has.
     pub fn replace(&mut self, at: u16, key: Key, content: T)
         requires { named (contents self.old) (key_of key.hour key.slot) ≡ Some at }
@@ -87,14 +75,18 @@ impl<'a, T: Copy> Shelf<'a, T> {
         self.index[key.index()] = Some(at);
     }
 
-    // Lays a record into the first place that is not in use.
-    pub fn push(&mut self, key: Key, content: T)
-        requires { self.old.used < length self.old.places.now }
-        ensures { contents self.new ≡ pushed (contents self.old) (record { hour = key.hour; slot = key.slot; content = content }) }
+    // Lays a record into the first place that is not in use, if there is one.
+    pub fn push(&mut self, key: Key, content: T) -> Result<(), StoreFault>
+        ensures { MatchResult result (Pushed (contents self.old) (record { hour = key.hour; slot = key.slot; content = content }) (contents self.new)) (Unpushed (contents self.old) key.hour key.slot (contents self.new)) }
     {
+        if self.used() >= self.capacity() {
+            let Key { hour, slot } = key;
+            return Err(StoreFault::Full { hour, slot });
+        }
         self.places[self.used as usize] = key.place(content);
         self.index[key.index()] = Some(self.used);
         self.used += 1;
+        Ok(())
     }
 
     // Takes a record away: the last one moves to its place.
