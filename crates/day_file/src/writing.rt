@@ -4,7 +4,6 @@ ghost use Rattle.std.specs.Int.{w32};
 ghost use Rattle.std.specs.List.{All};
 ghost use Rattle.day_file.specs.Encode.{row_figures};
 ghost use Rattle.day_file.specs.Encode.{key as key_bytes, body as body_bytes, record_body as record_bytes, padded as padded_bytes};
-ghost use Rattle.day_file.specs.Kinds.{kind_byte};
 ghost use Rattle.day_file.specs.Numbers.{half};
 ghost use Rattle.day_file.specs.Valid.{FitRecord, FitKey, FitFigures};
 ghost use Rattle.day_file.specs.Writing.{Written, Unwritten};

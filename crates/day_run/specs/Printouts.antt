@@ -1,7 +1,7 @@
 -- What a program prints for a day file.
 use Rattle.std.specs.Prelude.{◌≡◌, ℕ, List, Some, Ok, Err, Result, vec_items}
 use Rattle.day_file.specs.declared.day.ReadError.{ReadError}
-use Rattle.day_file.specs.declared.day.ReadError.TheVariants.{Refused, NoMemory}
+use Rattle.day_file.specs.declared.day.ReadError.TheVariants.{Refused}
 use Rattle.day_file.specs.declared.faults.FileFault.{FileFault}
 use Rattle.day_file.specs.Refusals.{file_fault}
 use Rattle.listing.specs.Refusals.{file_line}

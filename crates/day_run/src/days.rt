@@ -1,7 +1,7 @@
 // The page of a day file over a new store of each kind, as the programs print it.
-ghost use Rattle.std.specs.Prelude.{◌≡◌, IfOk, vec_items, MatchResult};
+ghost use Rattle.std.specs.Prelude.{IfOk, vec_items, MatchResult};
 ghost use Rattle.day_run.specs.Pages.{FirstPage, NoFirstPage};
-ghost use Rattle.day_run.specs.Printouts.{printed, Shows, Printed};
+ghost use Rattle.day_run.specs.Printouts.{Shows, Printed};
 
 use crate::pages::day_page;
 use crate::printout::Printout;

@@ -1,5 +1,5 @@
 // A line of text, written from its left to its right.
-ghost use Rattle.std.specs.Prelude.{◌≡◌, ◌+◌, ◌≤◌, List, [], ◌∷◌, ◌++◌, length};
+ghost use Rattle.std.specs.Prelude.{◌≡◌, ◌+◌, ◌≤◌, [], ◌∷◌, ◌++◌, length};
 ghost use Rattle.listing.specs.Columns.{figures};
 ghost use Rattle.listing.specs.Fields.{further};
 ghost use Rattle.listing.specs.Texts.{text, HasRoom};

@@ -1,6 +1,6 @@
 // The listing of a locked statement: a heading, a row for each hour for which something was sold, and the day's row.
 ghost use Rattle.std.specs.Prelude.{◌≡◌, ◌+◌, ◌≤◌, ◌++◌, length, take, drop};
-ghost use Rattle.listing.specs.Listing.{heading as heading_of, first_rows, listing, Laid};
+ghost use Rattle.listing.specs.Listing.{heading as heading_of, listing, Laid};
 
 use crate::rows::{day_row, hour_row};
 use day_file::FileFault;

@@ -1,5 +1,5 @@
 // The lines of a listing below its heading.
-ghost use Rattle.std.specs.Prelude.{◌≡◌, ◌<◌};
+ghost use Rattle.std.specs.Prelude.{◌≡◌};
 ghost use Rattle.listing.specs.Columns.{columns as columns_of};
 ghost use Rattle.listing.specs.Rows.{state_letter, hour_row, day_row};
 ghost use Rattle.listing.specs.Texts.{text};

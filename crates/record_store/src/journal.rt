@@ -1,5 +1,5 @@
 // A store that only adds entries: each change to a slot is one more, and the latest for a slot counts.
-ghost use Rattle.std.specs.Prelude.{◌≡◌, ◌+◌, ◌<◌, length, Some, None, MatchResult};
+ghost use Rattle.std.specs.Prelude.{◌≡◌, ◌+◌, length, Some, None, MatchResult};
 ghost use Rattle.settlement.specs.Rulings.{ruled, changed};
 ghost use Rattle.record_store.specs.Meaning.{fresh, full_refused, rewritten};
 ghost use Rattle.record_store.specs.Places.{places_refused, capacity_of};

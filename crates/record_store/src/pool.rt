@@ -1,5 +1,5 @@
 // A store that reuses its places: as much is spent as stands, and a rewrite costs nothing.
-ghost use Rattle.std.specs.Prelude.{◌≡◌, ◌+◌, ◌-◌, ◌<◌, length, Some, None, MatchResult};
+ghost use Rattle.std.specs.Prelude.{◌≡◌, ◌+◌, ◌-◌, length, Some, None, MatchResult};
 ghost use Rattle.settlement.specs.declared.figures.Interval.{Interval};
 ghost use Rattle.record_store.specs.declared.places.Place.{Place};
 ghost use Rattle.settlement.specs.Rulings.{ruled, changed};
