@@ -68,7 +68,8 @@ impl Hour {
         }
     }
 
-    // The hour's line under an edition. (Edition and region are two values: a pair of them would be taken apart at once.)
+    // The hour's line under an edition. (Edition and region are two values: a pair of them would be taken apart at
+    // once.)
     pub fn line<E: Edition>(&self, edition: &E, region: Region) -> HourLine
         ensures value { result ≡ hour_line (E.Edition.terms edition.now) region self.now.standing }
         ensures near { NearWhereSettled (E.Edition.terms edition.now) self.now.standing result }
