@@ -3,7 +3,7 @@ use Rattle.arithmetic.proofs.Machine.{Holds, whole, fits, back, minus, sized}
 use Rattle.settlement.specs.declared.figures.Interval.{Interval}
 use Rattle.settlement.specs.declared.figures.Schedule.{Schedule}
 use Rattle.settlement.proofs.Ranges.{Sound, Sold}
-use Rattle.settlement.proofs.Within.{settles}
+use Rattle.settlement.proofs.Settling.{settling}
 use Rattle.settlement.proofs.Terms.{wide, power_held}
 use Rattle.settlement.proofs.hour.settling.Settling.balance.Goals as goal
 
@@ -22,12 +22,12 @@ module _ (basis : ℤ) (row : Schedule) (i : Interval) (b : nat_abs basis ≤ 12
 pub overflow_sub-result-3 : goal.overflow_sub-result-3
 overflow_sub-result-3 _ c =
     let s = c.args.self.now in
-    let t = settles s.hour.now.standing s.row.now s.interval.now s.hour.now.within s.sold s.stands in
+    let t = settling s in
     fits w64 (due c.args.basis s.row.now s.interval.now c.requires t.row t.interval) (lit< tt)
 
 pub returns : goal.returns
 returns _ c =
     let s = c.args.self.now in
-    let t = settles s.hour.now.standing s.row.now s.interval.now s.hour.now.within s.sold s.stands in
+    let t = settling s in
     let r = back w64 (due c.args.basis s.row.now s.interval.now c.requires t.row t.interval) (lit< tt) in
     record { value = r.is; bound = sized r }

@@ -6,7 +6,7 @@ use Rattle.settlement.specs.declared.figures.Region.TheVariants.{East, West}
 use Rattle.settlement.specs.declared.figures.Schedule.{Schedule}
 use Rattle.settlement.specs.Formulas.{amount, spin_price}
 use Rattle.settlement.proofs.Ranges.{Sound, Sold}
-use Rattle.settlement.proofs.Within.{settles}
+use Rattle.settlement.proofs.Settling.{settling}
 use Rattle.settlement.proofs.Terms.{wide, power_held}
 use Rattle.settlement.proofs.hour.settling.Settling.spin.Goals as goal
 
@@ -24,14 +24,14 @@ pub amount-requires : goal.amount-requires
 amount-requires _ c =
     let s = c.args.self.now in
     let i = s.interval.now in
-    let t = settles s.hour.now.standing s.row.now i s.hour.now.within s.sold s.stands in
+    let t = settling s in
     record { kw = sized (beyond s.row.now i t.row t.interval); price = sized (reserve_held s.region i _ t.interval c.of.ensures); seconds = t.interval.most }
 
 pub returns : goal.returns
 returns _ c =
     let s = c.args.self.now in
     let i = s.interval.now in
-    let t = settles s.hour.now.standing s.row.now i s.hour.now.within s.sold s.stands in
+    let t = settling s in
     let kw = beyond s.row.now i t.row t.interval in
     let p = reserve_held s.region i _ t.interval c.of.ensures in
     let r = back w64 (whole c.amount.result 1206000000000 c.amount.ensures.bound) (lit< tt) in
