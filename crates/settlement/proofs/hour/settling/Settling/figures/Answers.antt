@@ -1,5 +1,5 @@
 use Rattle.std.proofs.Common.{◌≡◌, ℕ, ◌≤◌, ℤ, ◌-ℤ◌, nat_abs, ap, ◌∙◌, arith, lit<, w32, w64, to_z, of_z}
-use Rattle.arithmetic.proofs.Machine.{Holds, holds, whole, back, sized}
+use Rattle.arithmetic.proofs.Machine.{Holds, holds, back, figure, held, sized}
 use Rattle.settlement.specs.declared.figures.Limits.{Limits}
 use Rattle.settlement.specs.declared.editions.Sign.{Sign}
 use Rattle.settlement.specs.Editions.{Terms, Lawful}
@@ -23,18 +23,14 @@ shown_held sign sign' u z r q h e =
     let small : nat_abs (shown sign' z) ≤ 1206000000000 = omega (arith, shown_size sign' z, h.size) in
     back w64 (holds (e ∙ (λ k. shown (q k) (h.is k))) small) (lit< tt)
 
--- What a function answers, by its contract.
-held : {u z : ℤ} {n : ℕ} → u ≡ z → nat_abs u ≤ n → Holds u z n
-held e h = holds e (omega (arith, ap nat_abs e))
-
 amount_held : (b z p : ℤ) (s : ℕ) (r : ℤ) → Holds (to_z w64 (of_z w64 b)) z 1206000000 → nat_abs p ≤ 1000000 → r ≡ amount (to_z w64 (of_z w64 b)) (to_z w32 (of_z w32 p)) s
     → nat_abs r ≤ 1206000000000 → Holds (to_z w64 (of_z w64 r)) (amount z p s) 1206000000000
 amount_held b z p s r h k e l =
     let v : r ≡ amount z p s = e ∙ (λ n. amount (h.is n) ((price_held p k).is n) s) in
-    back w64 (holds v (omega (arith, ap nat_abs v))) (lit< tt)
+    back w64 (held v l) (lit< tt)
 
 kw_small : (b : ℤ) → nat_abs b ≤ 1206000000 → nat_abs (to_z w64 (of_z w64 b)) ≤ 1206000000
-kw_small b h = sized (back w64 (whole b 1206000000 h) (lit< tt))
+kw_small b h = sized (figure w64 b h (lit< tt))
 
 pub balance-balance-requires : goal.balance-balance-requires
 balance-balance-requires g c =
