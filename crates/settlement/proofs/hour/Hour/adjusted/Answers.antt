@@ -1,4 +1,4 @@
-use Rattle.std.proofs.Common.{◌≡◌, ℕ, ◌*◌, ◌<◌, ◌≤◌, Bool, true, false, cond, ℤ, pos, ◌*ℤ◌, nat_abs, ◌≤ℤ◌, Some, None, sym, ap, ◌∙◌, mul-le-mul, arith, lit<, lit≤, w32, w64, SFits, to_z, of_z, rules}
+use Rattle.std.proofs.Common.{◌≡◌, ℕ, ◌*◌, ◌<◌, ◌≤◌, Bool, true, false, cond, ℤ, pos, ◌*ℤ◌, nat_abs, ◌≤ℤ◌, Some, None, sym, ap, ◌∙◌, mul-le-mul, arith, lit<, lit≤, w64, SFits, to_z, of_z, rules}
 use lib.Signed.{lt_z}
 use borrow.Author.Differences.{ints, true_is_lt, false_is_lt}
 use Rattle.std.proofs.lemmas.Int.{to_z-of_z}

@@ -1,4 +1,4 @@
-use Rattle.std.proofs.Common.{◌≡◌, ◌+◌, ◌*◌, ◌≤◌, true, length, ℤ, ◌+ℤ◌, nat_abs, ap, ◌∙◌, arith, lit<, lit≤, w64, to_z, of_z}
+use Rattle.std.proofs.Common.{◌≡◌, ◌+◌, ◌*◌, ◌≤◌, true, length, ◌+ℤ◌, ap, ◌∙◌, arith, lit<, lit≤, w64, to_z, of_z}
 use Rattle.std.proofs.lemmas.Bool.{and_from, le-leb}
 use Rattle.arithmetic.proofs.Sums.{standing_length}
 use Rattle.arithmetic.proofs.Machine.{Holds, holds, fits, back, figure, plus}
