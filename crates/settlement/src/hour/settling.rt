@@ -1,5 +1,5 @@
 // Settling an hour: the figures of its intervals, and their sums.
-ghost use Rattle.std.specs.Prelude.{◌≡◌, ◌*◌, ◌≤◌, pos, ◌+ℤ◌, ◌-ℤ◌, ◌*ℤ◌, Some, None, unsigned_abs};
+ghost use Rattle.std.specs.Prelude.{◌≡◌, ◌≤◌, ◌-ℤ◌, Some, unsigned_abs};
 ghost use Rattle.settlement.specs.Standing.{intervals, StandsIn};
 ghost use Rattle.settlement.specs.Formulas.{amount as amount_ℤ, spin_price, figures as figures_ℤ, sums as sums_ℤ, with_figures};
 ghost use Rattle.settlement.specs.Bounds.{FiguresWithin, SumsWithin};
