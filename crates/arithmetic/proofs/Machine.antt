@@ -1,6 +1,6 @@
 -- What the machine holds of a signed number: a number that went to its bits and back is the same where it is small
 -- enough. The lemmas follow the code's expression: a leaf, an operation, and after each the way to the bits and back.
-use Rattle.std.proofs.Common.{◌≡◌, ℕ, ◌+◌, ◌*◌, ◌^◌, ◌<◌, ◌≤◌, ℤ, pos, ◌+ℤ◌, ◌-ℤ◌, ◌*ℤ◌, nat_abs, sym, refl, ap, ◌∙◌, subst, le_trans, mul-le-mul, arith, SFits, to_z, of_z}
+use Rattle.std.proofs.Common.{◌≡◌, ℕ, ◌+◌, ◌*◌, ◌^◌, ◌<◌, ◌≤◌, ℤ, pos, ◌+ℤ◌, ◌-ℤ◌, ◌*ℤ◌, nat_abs, sym, refl, ap, ◌∙◌, subst, le_trans, mul-le-mul, arith, w32, w64, SFits, to_z, of_z}
 use borrow.Author.Differences.{ints}
 use mir.Syntax.{Width}
 use mir.Val.{hbits}
@@ -34,6 +34,18 @@ fits w {u} {z} {n} h k = subst (SFits w) (sym h.is) (small z n h.size k)
 
 pub back : (w : Width) {u z : ℤ} {n : ℕ} → Holds u z n → n < 2 ^ hbits w → Holds (to_z w (of_z w u)) z n
 back w {u} h k = record { is = to_z-of_z w u (fits w h k) ∙ h.is; size = h.size }
+
+-- A small number itself, read from its bits.
+pub figure : (w : Width) (z : ℤ) {n : ℕ} → nat_abs z ≤ n → n < 2 ^ hbits w → Holds (to_z w (of_z w z)) z n
+figure w z {n} h k = back w (whole z n h) k
+
+-- What a function answers, by its contract.
+pub held : {u z : ℤ} {n : ℕ} → u ≡ z → nat_abs u ≤ n → Holds u z n
+held e h = holds e (omega (arith, ap nat_abs e, h))
+
+-- A number of 32 bits in 64.
+abbrev pub wide : ℤ → ℤ
+wide x = to_z w64 (of_z w64 (to_z w32 (of_z w32 x)))
 
 -- The operations.
 pub plus : {u v a b : ℤ} {m n : ℕ} → Holds u a m → Holds v b n → Holds (u +ℤ v) (a +ℤ b) (m + n)

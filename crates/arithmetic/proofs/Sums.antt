@@ -4,7 +4,7 @@ use lib.IntN.{+ℤ_assoc, *ℤ-zero}
 use borrow.Author.Differences.{ints}
 use Rattle.std.specs.List.{flat_map, All, Contains}
 use Rattle.std.specs.Option.{option_to_list}
-use Rattle.std.proofs.lemmas.List.{take_more, flat_map_more, take-append-drop, set_split}
+use Rattle.std.proofs.lemmas.List.{take_more, flat_map_more, take-append-drop, append-nil, set_split}
 use Rattle.std.proofs.lemmas.List.Concat.{flat_map-append}
 use Rattle.std.proofs.lemmas.List.Elements.{All-tail, Contains-append_left, Contains-push}
 use Rattle.std.proofs.lemmas.List.Sums.{sum_by-cons}
@@ -38,6 +38,15 @@ pub standing_more : {A : Type 0} (xs : List (Option A)) (k : ℕ) → k < length
     → flat_map option_to_list (take (k + 1) xs) ≡ flat_map option_to_list (take k xs) ++ option_to_list (get_or xs k None)
 standing_more xs k h = ap (flat_map option_to_list) (take_more xs k None h) ∙ sym (flat_map_more option_to_list [] (take k xs) (get_or xs k None))
 
+pub standing_empty : {A : Type 0} (xs : List (Option A)) (k : ℕ) → k < length xs → get_or xs k None ≡ None
+    → flat_map option_to_list (take (k + 1) xs) ≡ flat_map option_to_list (take k xs)
+standing_empty xs k l e =
+    standing_more xs k l ∙ ap (λ o. flat_map option_to_list (take k xs) ++ option_to_list o) e ∙ append-nil (flat_map option_to_list (take k xs))
+
+pub standing_push : {A : Type 0} (xs : List (Option A)) (k : ℕ) (x : A) → k < length xs → get_or xs k None ≡ Some x
+    → flat_map option_to_list (take (k + 1) xs) ≡ flat_map option_to_list (take k xs) ++ x ∷ []
+standing_push xs k x l e = standing_more xs k l ∙ ap (λ o. flat_map option_to_list (take k xs) ++ option_to_list o) e
+
 -- A sum of figures that are not negative is not negative, and none of them exceeds it.
 pub sum_ℤ_positive : {A : Type 0} (f : A → ℤ) (xs : List A) → All (λ x. pos 0 ≤ℤ f x) xs → pos 0 ≤ℤ sum_ℤ f xs
 unfolding sum_ℤ
@@ -51,12 +60,16 @@ sum_ℤ_part f (x ∷ xs) zero d l h = let q = sum_ℤ_positive f xs (All-tail (
 sum_ℤ_part f (x ∷ xs) (suc k) d l h =
     let p = h 0 x (omega arith) in let q = sum_ℤ_part f xs k d (omega arith) (All-tail (λ x. pos 0 ≤ℤ f x) x xs h) in omega (arith, ints)
 
+-- What stands before a filled place, in it, and after it.
+pub standing_split : {A : Type 0} (xs : List (Option A)) (k : ℕ) (x : A) → k < length xs → get_or xs k None ≡ Some x
+    → flat_map option_to_list xs ≡ (flat_map option_to_list (take k xs) ++ x ∷ []) ++ flat_map option_to_list (drop (k + 1) xs)
+standing_split xs k x l e =
+    ap (flat_map option_to_list) (sym (take-append-drop (k + 1) xs)) ∙ flat_map-append option_to_list (take (k + 1) xs) (drop (k + 1) xs)
+    ∙ ap (λ zs. zs ++ flat_map option_to_list (drop (k + 1) xs)) (standing_push xs k x l e)
+
 pub standing_has : {A : Type 0} (xs : List (Option A)) (k : ℕ) (x : A) → k < length xs → get_or xs k None ≡ Some x → Contains (flat_map option_to_list xs) x
 standing_has xs k x l e =
-    let whole : flat_map option_to_list xs ≡ (flat_map option_to_list (take k xs) ++ x ∷ []) ++ flat_map option_to_list (drop (k + 1) xs) =
-    ap (flat_map option_to_list) (sym (take-append-drop (k + 1) xs)) ∙ flat_map-append option_to_list (take (k + 1) xs) (drop (k + 1) xs)
-    ∙ ap (λ zs. zs ++ flat_map option_to_list (drop (k + 1) xs)) (standing_more xs k l ∙ ap (λ o. flat_map option_to_list (take k xs) ++ option_to_list o) e) in
-    subst (λ zs. Contains zs x) (sym whole) (Contains-append_left (flat_map option_to_list (take k xs) ++ x ∷ []) (flat_map option_to_list (drop (k + 1) xs)) x (Contains-push (flat_map option_to_list (take k xs)) x))
+    subst (λ zs. Contains zs x) (sym (standing_split xs k x l e)) (Contains-append_left (flat_map option_to_list (take k xs) ++ x ∷ []) (flat_map option_to_list (drop (k + 1) xs)) x (Contains-push (flat_map option_to_list (take k xs)) x))
 
 -- A place in which something stands is there.
 pub standing_place : {A : Type 0} (xs : List (Option A)) (k : ℕ) (x : A) → get_or xs k None ≡ Some x → k < length xs

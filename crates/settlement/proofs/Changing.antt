@@ -105,9 +105,6 @@ module _ (xs : List (Option Interval)) (k : ℕ) (l : k < length xs) where
       let around = tally_around (flat_map option_to_list (take k xs)) (flat_map option_to_list (drop (suc k) xs)) i in
       same_without u _ i (sym a ∙ e ∙ ap tally_of whole ∙ sym around) ∙ ap tally_of (sym (standing_set xs k None l))
 
-  pub slot_empty : get_or xs k None ≡ None → set xs k None ≡ xs
-  slot_empty at = ap (set xs k) (sym at) ∙ set-get_or xs k None
-
 -- The tally of an hour's records is small.
 pub tally_small : (xs : List (Option Interval)) (t : Tally) → length xs ≡ 24 → All Fair (flat_map option_to_list xs) → t ≡ tally_of (flat_map option_to_list xs) → TallyWithin 24 t
 tally_small xs t n h e =

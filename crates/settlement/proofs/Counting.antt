@@ -2,11 +2,10 @@
 use Rattle.std.proofs.Common.{◌≡◌, ℕ, ◌+◌, ◌<◌, List, [], ◌∷◌, ◌++◌, length, get_or, take, drop, pos, ◌*ℤ◌, nat_abs, Some, None, Option, sym, refl, ap, ◌∙◌, mul-le-mul, arith}
 use Rattle.std.specs.List.{flat_map}
 use Rattle.std.specs.Option.{option_to_list}
-use Rattle.std.proofs.lemmas.List.{length_push, take-append-drop, append-nil}
+use Rattle.std.proofs.lemmas.List.{length_push}
 use Rattle.std.proofs.lemmas.List.Sums.{sum_by_push}
 use Rattle.arithmetic.proofs.Sizes.{abs_sum, abs_product}
-use Rattle.arithmetic.proofs.Sums.{sum_ℤ-push, sum_ℤ_none, standing_more}
-use Rattle.std.proofs.lemmas.List.Concat.{flat_map-append}
+use Rattle.arithmetic.proofs.Sums.{sum_ℤ-push, sum_ℤ_none, standing_empty, standing_push, standing_split}
 use Rattle.settlement.specs.declared.figures.Interval.{Interval}
 use Rattle.settlement.specs.declared.figures.Tally.{Tally}
 use Rattle.settlement.specs.declared.limits.Refusal.{Refusal}
@@ -49,7 +48,7 @@ counted_none xs t zero =
 
 pub counted_empty : (xs : List (Option Interval)) (k : ℕ) (t : Tally) → k < length xs → get_or xs k None ≡ None → Counted xs k t → Counted xs (k + 1) t
 counted_empty xs k t l e c =
-    let more : flat_map option_to_list (take (k + 1) xs) ≡ flat_map option_to_list (take k xs) = standing_more xs k l ∙ ap (λ o. flat_map option_to_list (take k xs) ++ option_to_list o) e ∙ append-nil (flat_map option_to_list (take k xs)) in
+    let more = standing_empty xs k l e in
     record {
       is = c.is ∙ ap tally_of (sym more);
       passed = ap each_refusal more ∙ c.passed;
@@ -62,7 +61,7 @@ unfolding each_refusal
 counted_more xs k t t' i l e ok c q =
     let s = sound i ok in
     let is = flat_map option_to_list (take k xs) in
-    let more : flat_map option_to_list (take (k + 1) xs) ≡ is ++ i ∷ [] = standing_more xs k l ∙ ap (λ o. flat_map option_to_list (take k xs) ++ option_to_list o) e in
+    let more = standing_push xs k i l e in
     let one : each_refusal (i ∷ []) ≡ None = first_none (interval_refusal i) None ok in
     record {
       is = q ∙ ap (λ t. with_interval t i) c.is ∙ tally_push is i ∙ ap tally_of (sym more);
@@ -82,8 +81,5 @@ unfolding each_refusal
 counted_refused xs k t i r l e bad c =
     let is = flat_map option_to_list (take k xs) in
     let js = flat_map option_to_list (drop (k + 1) xs) in
-    let whole : flat_map option_to_list xs ≡ (is ++ i ∷ []) ++ js =
-    ap (flat_map option_to_list) (sym (take-append-drop (k + 1) xs)) ∙ flat_map-append option_to_list (take (k + 1) xs) (drop (k + 1) xs)
-    ∙ ap (λ zs. zs ++ js) (standing_more xs k l ∙ ap (λ o. is ++ option_to_list o) e) in
     let front = refusal_append is (i ∷ []) ∙ first_none (each_refusal is) (each_refusal (i ∷ [])) c.passed ∙ ap (λ o. first o None) bad in
-    ap each_refusal whole ∙ refusal_append (is ++ i ∷ []) js ∙ ap (λ o. first o (each_refusal js)) front
+    ap each_refusal (standing_split xs k i l e) ∙ refusal_append (is ++ i ∷ []) js ∙ ap (λ o. first o (each_refusal js)) front

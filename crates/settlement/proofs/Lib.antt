@@ -4,6 +4,7 @@ pub mod Counting
 pub mod Within
 pub mod Terms
 pub mod Volumes
+pub mod Settling
 pub mod Signs
 pub mod Changing
 pub mod Summing

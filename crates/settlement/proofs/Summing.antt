@@ -1,11 +1,11 @@
 -- Summing what the intervals of an hour come to, one place after another.
-use Rattle.std.proofs.Common.{◌≡◌, ℕ, ◌+◌, ◌*◌, ◌<◌, ◌≤◌, List, [], ◌∷◌, ◌++◌, length, get_or, take, ℤ, pos, ◌+ℤ◌, ◌*ℤ◌, nat_abs, Some, None, Option, sym, ap, ◌∙◌, mul-le-mul, arith}
+use Rattle.std.proofs.Common.{◌≡◌, ℕ, ◌+◌, ◌*◌, ◌<◌, ◌≤◌, List, length, get_or, take, ℤ, pos, ◌+ℤ◌, ◌*ℤ◌, nat_abs, Some, None, Option, sym, ap, ◌∙◌, mul-le-mul, arith}
 use Rattle.std.specs.List.{flat_map}
 use Rattle.std.specs.Option.{option_to_list}
-use Rattle.std.proofs.lemmas.List.{append-nil, take_all}
+use Rattle.std.proofs.lemmas.List.{take_all}
 use Rattle.arithmetic.specs.Sums.{sum_ℤ}
 use Rattle.arithmetic.proofs.Sizes.{abs_sum, abs_product}
-use Rattle.arithmetic.proofs.Sums.{sum_ℤ-push, sum_ℤ_none, standing_more}
+use Rattle.arithmetic.proofs.Sums.{sum_ℤ-push, sum_ℤ_none, standing_empty, standing_push}
 use Rattle.settlement.specs.declared.figures.Interval.{Interval}
 use Rattle.settlement.specs.declared.figures.IntervalFigures.{IntervalFigures}
 use Rattle.settlement.specs.declared.figures.Region.{Region}
@@ -27,14 +27,12 @@ module _ (f : Interval → ℤ) (B : ℕ) (xs : List (Option Interval)) where
 
   pub sum_empty : (k : ℕ) (s : ℤ) → k < length xs → get_or xs k None ≡ None → Sum f B xs k s → Sum f B xs (k + 1) s
   sum_empty k s l e c =
-      let more : flat_map option_to_list (take (k + 1) xs) ≡ flat_map option_to_list (take k xs) = standing_more xs k l ∙ ap (λ o. flat_map option_to_list (take k xs) ++ option_to_list o) e ∙ append-nil (flat_map option_to_list (take k xs)) in
-      record { is = c.is ∙ ap (sum_ℤ f) (sym more); size = omega (arith, c.size) }
+      record { is = c.is ∙ ap (sum_ℤ f) (sym (standing_empty xs k l e)); size = omega (arith, c.size) }
 
   pub sum_more : (k : ℕ) (s t x : ℤ) (i : Interval) → k < length xs → get_or xs k None ≡ Some i → Sum f B xs k s → t ≡ s +ℤ x → x ≡ f i → nat_abs x ≤ B → Sum f B xs (k + 1) t
   sum_more k s t x i l e c q v h =
-      let more : flat_map option_to_list (take (k + 1) xs) ≡ flat_map option_to_list (take k xs) ++ i ∷ [] = standing_more xs k l ∙ ap (λ o. flat_map option_to_list (take k xs) ++ option_to_list o) e in
       record {
-        is = q ∙ (λ n. c.is n +ℤ v n) ∙ sym (sum_ℤ-push f (flat_map option_to_list (take k xs)) i) ∙ ap (sum_ℤ f) (sym more);
+        is = q ∙ (λ n. c.is n +ℤ v n) ∙ sym (sum_ℤ-push f (flat_map option_to_list (take k xs)) i) ∙ ap (sum_ℤ f) (sym (standing_push xs k i l e));
         size = omega (arith, ap nat_abs q, abs_sum s x, c.size, h);
       }
 

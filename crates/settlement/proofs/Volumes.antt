@@ -1,9 +1,9 @@
 -- What an interval adds to a tally of an hour, as the code holds it.
 use Rattle.std.proofs.Common.{◌*◌, ◌≤◌, ℤ, pos, ◌+ℤ◌, ◌-ℤ◌, ◌*ℤ◌, nat_abs, lit<, w64, to_z, of_z}
-use Rattle.arithmetic.proofs.Machine.{Holds, whole, natural, back, plus, minus, times}
+use Rattle.arithmetic.proofs.Machine.{Holds, natural, back, figure, wide, plus, minus, times}
 use Rattle.settlement.specs.declared.figures.Interval.{Interval}
 use Rattle.settlement.proofs.Ranges.{Sound}
-use Rattle.settlement.proofs.Terms.{wide, power_held}
+use Rattle.settlement.proofs.Terms.{power_held}
 
 -- The code's term of average x seconds.
 abbrev pub energy : Interval → ℤ
@@ -14,7 +14,7 @@ energy_held i s = times (power_held i.average s.average.size) (natural w64 i.sec
 
 module _ (v : ℤ) (i : Interval) (h : nat_abs v ≤ 24 * 7200000000) (s : Sound i) where
   pub added : Holds (to_z w64 (of_z w64 v) +ℤ to_z w64 (of_z w64 (energy i))) (v +ℤ i.average *ℤ pos i.seconds) (25 * 7200000000)
-  added = plus (back w64 (whole v (24 * 7200000000) h) (lit< tt)) (back w64 (energy_held i s) (lit< tt))
+  added = plus (figure w64 v h (lit< tt)) (back w64 (energy_held i s) (lit< tt))
 
   pub removed : Holds (to_z w64 (of_z w64 v) -ℤ to_z w64 (of_z w64 (energy i))) (v -ℤ i.average *ℤ pos i.seconds) (25 * 7200000000)
-  removed = minus (back w64 (whole v (24 * 7200000000) h) (lit< tt)) (back w64 (energy_held i s) (lit< tt))
+  removed = minus (figure w64 v h (lit< tt)) (back w64 (energy_held i s) (lit< tt))

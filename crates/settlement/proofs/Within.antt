@@ -17,7 +17,7 @@ use Rattle.settlement.specs.Limits.{interval_refusal, schedule_refusal, reading_
 use Rattle.settlement.specs.Standing.{intervals, StandsIn, seconds, volume}
 use Rattle.settlement.specs.Formulas.{settled_by}
 use Rattle.settlement.proofs.Rulings.{passed, neither, none, not_refused}
-use Rattle.settlement.proofs.Ranges.{Power, Sound, sound, Sold, sold, metered}
+use Rattle.settlement.proofs.Ranges.{Power, Sound, sound, metered}
 
 abbrev pub Fair : Interval → Type 0
 Fair i = interval_refusal i ≡ None
@@ -57,16 +57,6 @@ sound_one h i w one = sound i (fair_one h i w one)
 
 pub row_fair : (h : Standing) (g : Schedule) → Within h → h.schedule ≡ Some g → schedule_refusal g ≡ None
 row_fair h g w e = sym (ap (optional schedule_refusal) e) ∙ w.schedule
-
--- The row and an interval that settle an hour are within their limits.
-pub record Settles (g : Schedule) (i : Interval) : Type 0 where
-  pub row : Sold g
-  pub interval : Sound i
-
-pub settles : (h : Standing) (g : Schedule) (i : Interval) → is_some (hour_refusal h) ≡ false → h.schedule ≡ Some g → StandsIn h i → Settles g i
-settles h g i e row stands =
-    let w = within h e in
-    record { row = sold g (row_fair h g w row); interval = sound_one h i w stands }
 
 pub reading_metered : (h : Standing) (m : ℤ) → Within h → h.reading ≡ Some m → Power m
 reading_metered h m w e = metered m (sym (ap (optional reading_refusal) e) ∙ w.reading)

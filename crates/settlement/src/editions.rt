@@ -58,6 +58,7 @@ impl Scenario {
     pub fn hold(self, adjusted: i64) -> i64
         ensures { result ≡ held self adjusted }
     {
+        // By reference: an or-pattern over the value itself gets no proof from today's checker.
         match &self {
             Scenario::Free => adjusted,
             Scenario::Intervention(limit)

@@ -1,5 +1,6 @@
-// The flags under which an interval ran. A record has them as a sum, a bit each. They stay numbers: the sum is one of a
-// record's figures, as the day file has it, and may break its limits until it is checked.
+// The flags under which an interval ran. A record has them as a sum, a bit each. They are numbers, and `has` takes two:
+// the sum is one figure of the day file's width, which may break its limits and is refused by its number; a narrower
+// type would ask more of callers.
 ghost use Rattle.std.specs.Prelude.{◌≡◌};
 ghost use Rattle.settlement.specs.Limits.{has_flag};
 

@@ -1,9 +1,9 @@
 // Counting what stands in an hour.
-ghost use Rattle.std.specs.Prelude.{◌≡◌, ◌+◌, ◌*◌, ◌≤◌, length, pos, ◌+ℤ◌, ◌-ℤ◌, ◌*ℤ◌, None, unsigned_abs};
+ghost use Rattle.std.specs.Prelude.{◌≡◌, ◌≤◌, length, None};
 ghost use Rattle.std.specs.List.{flat_map};
 ghost use Rattle.std.specs.Option.{option_to_list};
-ghost use Rattle.settlement.specs.Rulings.{ruled, optional};
-ghost use Rattle.settlement.specs.Limits.{interval_refusal, schedule_refusal, reading_refusal, each_refusal, hour_refusal};
+ghost use Rattle.settlement.specs.Rulings.{ruled};
+ghost use Rattle.settlement.specs.Limits.{interval_refusal, each_refusal, hour_refusal};
 ghost use Rattle.settlement.specs.Bounds.{TallyWithin};
 ghost use Rattle.settlement.specs.Standing.{intervals, tally_of, with_interval};
 
@@ -41,7 +41,7 @@ impl Tally {
         ensures slots { length records.now ≡ 24 }
     {
         let mut tally = Tally::default();
-        // Not `iter().flatten()`: a whole day then takes a sixteenth more instructions.
+        // Not `iter().flatten()`: it proves too, but a day then takes over twice what the plain peer in bench/ takes.
         for record in records {
             if let Some(interval) = record {
                 interval.check()?;

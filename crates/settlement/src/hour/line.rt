@@ -1,5 +1,5 @@
 // The line of an hour, and the figures of the interval in a slot.
-ghost use Rattle.std.specs.Prelude.{◌≡◌, ◌*◌, ◌≤◌, true, None, slice_index_or, unsigned_abs};
+ghost use Rattle.std.specs.Prelude.{◌≡◌, true, None, slice_index_or};
 ghost use Rattle.settlement.specs.Bounds.{SumsWithin, is_small_line, is_short_line};
 ghost use Rattle.settlement.specs.Nearness.{NearWhereSettled, SharesReading, SignFree};
 ghost use Rattle.settlement.specs.Formulas.{settled_by, settled_sums, ahead as ahead_ℤ, line_of, hour_line, figures_at};
@@ -68,7 +68,8 @@ impl Hour {
         }
     }
 
-    // The hour's line under an edition. (Edition and region are two values: a pair of them would be taken apart at once.)
+    // The hour's line under an edition. (Edition and region are two values: a pair of them would be taken apart at
+    // once.)
     pub fn line<E: Edition>(&self, edition: &E, region: Region) -> HourLine
         ensures value { result ≡ hour_line (E.Edition.terms edition.now) region self.now.standing }
         ensures near { NearWhereSettled (E.Edition.terms edition.now) self.now.standing result }

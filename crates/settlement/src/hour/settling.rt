@@ -1,5 +1,5 @@
-// Settling an hour: the figures of its intervals, their sums, and its line.
-ghost use Rattle.std.specs.Prelude.{◌≡◌, ◌*◌, ◌≤◌, pos, ◌+ℤ◌, ◌-ℤ◌, ◌*ℤ◌, Some, None, unsigned_abs};
+// Settling an hour: the figures of its intervals, and their sums.
+ghost use Rattle.std.specs.Prelude.{◌≡◌, ◌≤◌, ◌-ℤ◌, Some, unsigned_abs};
 ghost use Rattle.settlement.specs.Standing.{intervals, StandsIn};
 ghost use Rattle.settlement.specs.Formulas.{amount as amount_ℤ, spin_price, figures as figures_ℤ, sums as sums_ℤ, with_figures};
 ghost use Rattle.settlement.specs.Bounds.{FiguresWithin, SumsWithin};
@@ -96,7 +96,7 @@ impl Hour {
         ensures within { SumsWithin 24 result }
     {
         let mut sums = Sums::default();
-        // Not `iter().flatten()`: a whole day then takes a sixteenth more instructions.
+        // Not `iter().flatten()`: it proves too, but a day then takes over twice what the plain peer in bench/ takes.
         for record in &self.standing.records {
             if let Some(interval) = record {
                 let settling = Settling {

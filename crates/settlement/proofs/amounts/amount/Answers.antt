@@ -1,15 +1,15 @@
 use Rattle.std.proofs.Common.{ℕ, ◌≤◌, ℤ, pos, ◌*ℤ◌, nat_abs, ap, ◌∙◌, lit<, w32, w64, to_z, of_z}
 use Rattle.arithmetic.specs.Rounding.{nearest}
-use Rattle.arithmetic.proofs.Machine.{Holds, holds, whole, natural, fits, back, times, sized}
+use Rattle.arithmetic.proofs.Machine.{Holds, holds, natural, fits, back, figure, wide, times, sized}
 use Rattle.arithmetic.proofs.Rounding.{nearest_bounded}
 use Rattle.settlement.proofs.amounts.amount.Goals as goal
 
 -- The product, step by step.
 module _ (kw price : ℤ) (seconds : ℕ) (k : nat_abs kw ≤ 1206000000) (p : nat_abs price ≤ 1000000) (s : seconds ≤ 3600) where
-  first : Holds (to_z w64 (of_z w64 kw) *ℤ to_z w64 (of_z w64 (to_z w32 (of_z w32 price)))) (kw *ℤ price) 1206000000000000
-  first = times (back w64 (whole kw 1206000000 k) (lit< tt)) (back w64 (back w32 (whole price 1000000 p) (lit< tt)) (lit< tt))
+  first : Holds (to_z w64 (of_z w64 kw) *ℤ wide price) (kw *ℤ price) 1206000000000000
+  first = times (figure w64 kw k (lit< tt)) (back w64 (figure w32 price p (lit< tt)) (lit< tt))
 
-  second : Holds (to_z w64 (of_z w64 (to_z w64 (of_z w64 kw) *ℤ to_z w64 (of_z w64 (to_z w32 (of_z w32 price))))) *ℤ to_z w64 seconds) (kw *ℤ price *ℤ pos seconds) 4341600000000000000
+  second : Holds (to_z w64 (of_z w64 (to_z w64 (of_z w64 kw) *ℤ wide price)) *ℤ to_z w64 seconds) (kw *ℤ price *ℤ pos seconds) 4341600000000000000
   second = times (back w64 first (lit< tt)) (natural w64 seconds 3600 s (lit< tt))
 
 pub overflow_mul-kw-2 : goal.overflow_mul-kw-2

@@ -1,9 +1,9 @@
-use Rattle.std.proofs.Common.{◌≡◌, ℕ, ◌*◌, ◌<◌, ◌≤◌, Bool, true, false, cond, ℤ, pos, ◌*ℤ◌, nat_abs, ◌≤ℤ◌, Some, None, sym, ap, ◌∙◌, mul-le-mul, arith, lit<, lit≤, w32, w64, SFits, to_z, of_z, rules}
+use Rattle.std.proofs.Common.{◌≡◌, ℕ, ◌*◌, ◌<◌, ◌≤◌, Bool, true, false, cond, ℤ, pos, ◌*ℤ◌, nat_abs, ◌≤ℤ◌, Some, None, sym, ap, ◌∙◌, mul-le-mul, arith, lit<, lit≤, w64, SFits, to_z, of_z, rules}
 use lib.Signed.{lt_z}
 use borrow.Author.Differences.{ints, true_is_lt, false_is_lt}
 use Rattle.std.proofs.lemmas.Int.{to_z-of_z}
 use Rattle.arithmetic.specs.Rounding.{nearest}
-use Rattle.arithmetic.proofs.Machine.{Holds, holds, whole, fits, back, times, wider, sized}
+use Rattle.arithmetic.proofs.Machine.{Holds, holds, whole, fits, back, wide, times, wider, sized}
 use Rattle.arithmetic.proofs.Rounding.{nearest_bounded}
 use Rattle.arithmetic.proofs.Sizes.{abs_product}
 use Rattle.settlement.specs.declared.figures.Interval.{Interval}
@@ -11,18 +11,16 @@ use Rattle.settlement.specs.declared.figures.Standing.{Standing}
 use Rattle.settlement.specs.declared.figures.Tally.{Tally}
 use Rattle.settlement.specs.Standing.{volume}
 use Rattle.settlement.specs.Formulas.{share, adjusted}
+use Rattle.settlement.proofs.Terms.{power_held}
 use Rattle.settlement.proofs.Within.{within, reading_metered, volume_positive, volume_part, sound_one}
 use Rattle.settlement.proofs.hour.Hour.adjusted.Goals as goal
 
 -- What the code multiplies.
 abbrev term : ℤ → ℤ → ℤ
-term a m = to_z w64 (of_z w64 (pos 3600 *ℤ to_z w64 (of_z w64 (to_z w32 (of_z w32 a))))) *ℤ to_z w64 (of_z w64 (to_z w32 (of_z w32 m)))
-
-figure : (x : ℤ) → nat_abs x ≤ 2000000 → Holds (to_z w64 (of_z w64 (to_z w32 (of_z w32 x)))) x 2000000
-figure x h = back w64 (back w32 (whole x 2000000 h) (lit< tt)) (lit< tt)
+term a m = to_z w64 (of_z w64 (pos 3600 *ℤ wide a)) *ℤ wide m
 
 product : (a m : ℤ) → nat_abs a ≤ 2000000 → nat_abs m ≤ 2000000 → Holds (term a m) (pos 3600 *ℤ a *ℤ m) 14400000000000000
-product a m h k = times (back w64 (times (whole (pos 3600) 3600 (lit≤ tt)) (figure a h)) (lit< tt)) (figure m k)
+product a m h k = times (back w64 (times (whole (pos 3600) 3600 (lit≤ tt)) (power_held a h)) (lit< tt)) (power_held m k)
 
 -- An interval of six seconds or more has at most a sixth of the averages' sum, so at most 600 times the reading.
 share_bounded : (a m : ℤ) (s : ℕ) → 0 < s → nat_abs m ≤ 2000000 → 6 * nat_abs a ≤ s → nat_abs (nearest (pos 3600 *ℤ a *ℤ m) s) ≤ 1200000000
@@ -63,7 +61,7 @@ returns-in-None c =
     let h = c.args.self.now.standing in
     let i = c.args.interval.now in
     let s = sound_one h i (within h c.args.self.now.within) c.requires in
-    let a = figure i.average s.average.size in
+    let a = power_held i.average s.average.size in
     record { value = a.is ∙ by_average h i c.in-None.is; bound = sized (wider a (lit≤ tt)) }
 
 pub returns-in-Some-new : goal.returns-in-Some-new
@@ -95,5 +93,5 @@ returns-in-None-new c =
     let g : 0 ≡ nat_abs (volume h) =
     sym c.in-None-new.ensures ∙ c.unsigned_abs.ensures.value ∙ ap nat_abs (to_z-of_z w64 c.args.self.now.counted.volume f)
     ∙ ap (λ (t : Tally). nat_abs t.volume) c.args.self.now.tallied in
-    let r = figure m (reading_metered h m w c.in-Some.is).size in
+    let r = power_held m (reading_metered h m w c.in-Some.is).size in
     record { value = r.is ∙ by_reading h i m false 0 c.in-Some.is (no_output (volume h) (sym g)) g; bound = sized (wider r (lit≤ tt)) }

@@ -1,7 +1,7 @@
-use Rattle.std.proofs.Common.{◌≡◌, ◌+◌, ◌*◌, ◌≤◌, true, length, ℤ, ◌+ℤ◌, nat_abs, ap, ◌∙◌, arith, lit<, lit≤, w64, to_z, of_z}
+use Rattle.std.proofs.Common.{◌≡◌, ◌+◌, ◌*◌, ◌≤◌, true, length, ◌+ℤ◌, ap, ◌∙◌, arith, lit<, lit≤, w64, to_z, of_z}
 use Rattle.std.proofs.lemmas.Bool.{and_from, le-leb}
 use Rattle.arithmetic.proofs.Sums.{standing_length}
-use Rattle.arithmetic.proofs.Machine.{Holds, holds, whole, fits, back, plus}
+use Rattle.arithmetic.proofs.Machine.{Holds, holds, fits, back, figure, plus}
 use Rattle.settlement.specs.declared.figures.Amounts.{Amounts}
 use Rattle.settlement.specs.declared.figures.Standing.{Standing}
 use Rattle.settlement.specs.declared.figures.Sums.{Sums}
@@ -16,9 +16,6 @@ use Rattle.settlement.proofs.Within.{Within, within, row_fair}
 use Rattle.settlement.proofs.hour.Hour.close.Goals as goal
 use Rattle.settlement.proofs.hour.Hour.close.Goals.{in-Some, in-None}
 
-figure : (z : ℤ) → nat_abs z ≤ 24 * 1206000000000 → Holds (to_z w64 (of_z w64 z)) z (24 * 1206000000000)
-figure z h = back w64 (whole z (24 * 1206000000000) h) (lit< tt)
-
 -- What was sold the day before, what is balanced, and the total, as the code holds them.
 module _ (h : Standing) (s : Sums) (sign : Sign) (w : Within h) (few : SumsWithin 24 s) (a b : Amounts) (ea : a ≡ ahead h.schedule)
     (eb : b ≡ amounts sign (to_z w64 (of_z w64 s.energy)) (to_z w64 (of_z w64 s.loss)) (to_z w64 (of_z w64 s.congestion))) where
@@ -26,7 +23,7 @@ module _ (h : Standing) (s : Sums) (sign : Sign) (w : Within h) (few : SumsWithi
   before = ahead_sized h.schedule (λ g q. sold g (row_fair h g w q))
 
   balanced_is : b ≡ amounts sign s.energy s.loss s.congestion
-  balanced_is = eb ∙ (λ k. amounts sign ((figure s.energy few.energy).is k) ((figure s.loss few.loss).is k) ((figure s.congestion few.congestion).is k))
+  balanced_is = eb ∙ (λ k. amounts sign ((figure w64 s.energy few.energy (lit< tt)).is k) ((figure w64 s.loss few.loss (lit< tt)).is k) ((figure w64 s.congestion few.congestion (lit< tt)).is k))
 
   balanced : Sized (amounts sign s.energy s.loss s.congestion) (24 * 1206000000000)
   balanced = amounts_sized sign s.energy s.loss s.congestion (24 * 1206000000000) few.energy few.loss few.congestion
@@ -36,7 +33,7 @@ module _ (h : Standing) (s : Sums) (sign : Sign) (w : Within h) (few : SumsWithi
 
   all : Holds (to_z w64 (of_z w64 (to_z w64 (of_z w64 a.total) +ℤ to_z w64 (of_z w64 b.total))) +ℤ to_z w64 (of_z w64 s.spin))
       ((ahead h.schedule).total +ℤ (amounts sign s.energy s.loss s.congestion).total +ℤ s.spin) (3 * 4000000000 + 4 * (24 * 1206000000000))
-  all = plus (back w64 both (lit< tt)) (figure s.spin few.spin)
+  all = plus (back w64 both (lit< tt)) (figure w64 s.spin few.spin (lit< tt))
 
   line_small : is_small_line (line_of sign h s) ≡ true
   line_small =
@@ -81,8 +78,8 @@ returns c =
       | in-Some v ↦ v.state-is ∙ ap state v.in-Some.ensures
       | in-None v ↦ v.state-is ∙ ap state v.in-None.ensures
     ] in
-    let due = back w64 (whole s.balance (24 * 4341600000000) few.balance) (lit< tt) in
-    let reserve = figure s.spin few.spin in
+    let due = figure w64 s.balance few.balance (lit< tt) in
+    let reserve = figure w64 s.spin few.spin (lit< tt) in
     let counted = hour.tallied in
     let v : _ ≡ line_of c.args.sign h s =
     λ k. record { state = settled k; intervals = (counted k).intervals; seconds = (counted k).seconds; ahead = a k; balance = due.is k; balancing = b k; spin = reserve.is k; total = t.is k } in

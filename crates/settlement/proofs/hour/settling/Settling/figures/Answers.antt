@@ -1,5 +1,5 @@
 use Rattle.std.proofs.Common.{◌≡◌, ℕ, ◌≤◌, ℤ, ◌-ℤ◌, nat_abs, ap, ◌∙◌, arith, lit<, w32, w64, to_z, of_z}
-use Rattle.arithmetic.proofs.Machine.{Holds, holds, back, sized}
+use Rattle.arithmetic.proofs.Machine.{Holds, holds, back, figure, held, sized}
 use Rattle.settlement.specs.declared.figures.Limits.{Limits}
 use Rattle.settlement.specs.declared.editions.Sign.{Sign}
 use Rattle.settlement.specs.Editions.{Terms, Lawful}
@@ -7,7 +7,7 @@ use Rattle.settlement.specs.Formulas.{amount, shown}
 use Rattle.settlement.proofs.Ranges.{Limiting}
 use Rattle.settlement.proofs.Signs.{shown_size}
 use Rattle.settlement.proofs.Terms.{price_held}
-use Rattle.settlement.proofs.Within.{within, sound_one, settles}
+use Rattle.settlement.proofs.Settling.{settling}
 use Rattle.settlement.proofs.hour.settling.Settling.figures.Goals as goal
 
 -- A basis of an adjusted energy within its bound is within it too.
@@ -23,47 +23,40 @@ shown_held sign sign' u z r q h e =
     let small : nat_abs (shown sign' z) ≤ 1206000000000 = omega (arith, shown_size sign' z, h.size) in
     back w64 (holds (e ∙ (λ k. shown (q k) (h.is k))) small) (lit< tt)
 
--- What a function answers, by its contract.
-held : {u z : ℤ} {n : ℕ} → u ≡ z → nat_abs u ≤ n → Holds u z n
-held e h = holds e (omega (arith, ap nat_abs e))
-
 amount_held : (b z p : ℤ) (s : ℕ) (r : ℤ) → Holds (to_z w64 (of_z w64 b)) z 1206000000 → nat_abs p ≤ 1000000 → r ≡ amount (to_z w64 (of_z w64 b)) (to_z w32 (of_z w32 p)) s
     → nat_abs r ≤ 1206000000000 → Holds (to_z w64 (of_z w64 r)) (amount z p s) 1206000000000
 amount_held b z p s r h k e l =
     let v : r ≡ amount z p s = e ∙ (λ n. amount (h.is n) ((price_held p k).is n) s) in
-    back w64 (holds v (omega (arith, ap nat_abs v))) (lit< tt)
+    back w64 (held v l) (lit< tt)
+
+kw_small : (b : ℤ) → nat_abs b ≤ 1206000000 → nat_abs (to_z w64 (of_z w64 b)) ≤ 1206000000
+kw_small b h = sized (figure w64 b h (lit< tt))
 
 pub balance-balance-requires : goal.balance-balance-requires
 balance-balance-requires g c =
     let s = c.args.self.now in
     let i = s.interval.now in
-    let t = settles s.hour.now.standing s.row.now i s.hour.now.within s.sold s.stands in
+    let t = settling s in
     let e = s.edition.now in
     sized (basis_held (g.E.Edition.terms e) (g.met.E.Edition.lawful e) i.flags _ _ _ i.limits t.interval.limits c.adjusted-adjusted.ensures.value c.adjusted-adjusted.ensures.bound c.basis-basis.ensures)
 
-pub amount-requires-clause-price : goal.amount-requires-clause-price
-amount-requires-clause-price g c =
+pub amount-requires : goal.amount-requires
+amount-requires _ c =
     let s = c.args.self.now in
-    sized (price_held s.interval.now.prices.energy (sound_one s.hour.now.standing s.interval.now (within _ s.hour.now.within) s.stands).prices.energy)
+    let sound = (settling s).interval in
+    record { kw = kw_small c.balance-balance.result c.balance-balance.ensures.bound; price = sized (price_held s.interval.now.prices.energy sound.prices.energy); seconds = sound.most }
 
-pub amount-requires-clause-seconds : goal.amount-requires-clause-seconds
-amount-requires-clause-seconds g c = let s = c.args.self.now in (sound_one s.hour.now.standing s.interval.now (within _ s.hour.now.within) s.stands).most
-
-pub amount-requires-2-clause-price : goal.amount-requires-2-clause-price
-amount-requires-2-clause-price g c =
+pub amount-requires-2 : goal.amount-requires-2
+amount-requires-2 _ c =
     let s = c.args.self.now in
-    sized (price_held s.interval.now.prices.loss (sound_one s.hour.now.standing s.interval.now (within _ s.hour.now.within) s.stands).prices.loss)
+    let sound = (settling s).interval in
+    record { kw = kw_small c.balance-balance.result c.balance-balance.ensures.bound; price = sized (price_held s.interval.now.prices.loss sound.prices.loss); seconds = sound.most }
 
-pub amount-requires-2-clause-seconds : goal.amount-requires-2-clause-seconds
-amount-requires-2-clause-seconds g c = let s = c.args.self.now in (sound_one s.hour.now.standing s.interval.now (within _ s.hour.now.within) s.stands).most
-
-pub amount-requires-3-clause-price : goal.amount-requires-3-clause-price
-amount-requires-3-clause-price g c =
+pub amount-requires-3 : goal.amount-requires-3
+amount-requires-3 _ c =
     let s = c.args.self.now in
-    sized (price_held s.interval.now.prices.congestion (sound_one s.hour.now.standing s.interval.now (within _ s.hour.now.within) s.stands).prices.congestion)
-
-pub amount-requires-3-clause-seconds : goal.amount-requires-3-clause-seconds
-amount-requires-3-clause-seconds g c = let s = c.args.self.now in (sound_one s.hour.now.standing s.interval.now (within _ s.hour.now.within) s.stands).most
+    let sound = (settling s).interval in
+    record { kw = kw_small c.balance-balance.result c.balance-balance.ensures.bound; price = sized (price_held s.interval.now.prices.congestion sound.prices.congestion); seconds = sound.most }
 
 pub returns : goal.returns
 returns g c =
@@ -72,7 +65,7 @@ returns g c =
     let row = s.row.now in
     let e = s.edition.now in
     let t = g.E.Edition.terms e in
-    let sound = sound_one s.hour.now.standing i (within _ s.hour.now.within) s.stands in
+    let sound = (settling s).interval in
     let a = back w64 (held c.adjusted-adjusted.ensures.value c.adjusted-adjusted.ensures.bound) (lit< tt) in
     let b = basis_held t (g.met.E.Edition.lawful e) i.flags _ _ _ i.limits sound.limits c.adjusted-adjusted.ensures.value c.adjusted-adjusted.ensures.bound c.basis-basis.ensures in
     let due = back w64 (held (c.balance-balance.ensures.value ∙ ap (λ z. z -ℤ row.generation -ℤ (i.transactions -ℤ row.transactions)) b.is) c.balance-balance.ensures.bound) (lit< tt) in

@@ -1,13 +1,13 @@
 use Rattle.std.proofs.Common.{◌≡◌, ◌≤◌, ℤ, ◌-ℤ◌, nat_abs, ◌∙◌, lit<, lit≤, w32, w64, to_z, of_z}
-use Rattle.arithmetic.proofs.Machine.{Holds, holds, whole, back, minus, wider, sized}
+use Rattle.arithmetic.proofs.Machine.{Holds, holds, back, figure, wide, minus, wider, sized}
 use Rattle.settlement.specs.declared.figures.Interval.{Interval}
 use Rattle.settlement.specs.declared.figures.Region.{Region}
 use Rattle.settlement.specs.declared.figures.Region.TheVariants.{East, West}
 use Rattle.settlement.specs.declared.figures.Schedule.{Schedule}
 use Rattle.settlement.specs.Formulas.{amount, spin_price}
 use Rattle.settlement.proofs.Ranges.{Sound, Sold}
-use Rattle.settlement.proofs.Within.{settles}
-use Rattle.settlement.proofs.Terms.{wide, power_held}
+use Rattle.settlement.proofs.Settling.{settling}
+use Rattle.settlement.proofs.Terms.{power_held}
 use Rattle.settlement.proofs.hour.settling.Settling.spin.Goals as goal
 
 beyond : (row : Schedule) (i : Interval) → Sold row → Sound i → Holds (to_z w64 (of_z w64 (wide i.spin -ℤ wide row.spin))) (i.spin -ℤ row.spin) 1206000000
@@ -24,15 +24,15 @@ pub amount-requires : goal.amount-requires
 amount-requires _ c =
     let s = c.args.self.now in
     let i = s.interval.now in
-    let t = settles s.hour.now.standing s.row.now i s.hour.now.within s.sold s.stands in
+    let t = settling s in
     record { kw = sized (beyond s.row.now i t.row t.interval); price = sized (reserve_held s.region i _ t.interval c.of.ensures); seconds = t.interval.most }
 
 pub returns : goal.returns
 returns _ c =
     let s = c.args.self.now in
     let i = s.interval.now in
-    let t = settles s.hour.now.standing s.row.now i s.hour.now.within s.sold s.stands in
+    let t = settling s in
     let kw = beyond s.row.now i t.row t.interval in
     let p = reserve_held s.region i _ t.interval c.of.ensures in
-    let r = back w64 (whole c.amount.result 1206000000000 c.amount.ensures.bound) (lit< tt) in
+    let r = figure w64 c.amount.result c.amount.ensures.bound (lit< tt) in
     record { value = r.is ∙ c.amount.ensures.value ∙ (λ k. amount (kw.is k) (p.is k) i.seconds); bound = sized r }
