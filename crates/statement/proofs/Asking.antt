@@ -1,44 +1,23 @@
 -- The answers to questions.
-use Rattle.std.proofs.Common.{◌≡◌, ℕ, ◌<◌, ◌≤◌, IsErrAnd, Some, None, Ok, Err, Result, sym, refl, ap, ◌∙◌}
+use Rattle.std.proofs.Common.{◌≡◌, ℕ, ◌<◌, IsErrAnd, Some, None, Err, Result, sym, refl, ap, ◌∙◌}
 use Rattle.std.proofs.lemmas.Result.{err_from_is_err_and}
-use Rattle.std.proofs.lemmas.Bool.{lt-ltb, le-ltb}
 use Rattle.settlement.specs.declared.figures.IntervalFigures.{IntervalFigures}
 use Rattle.settlement.specs.declared.figures.Standing.{Standing}
 use Rattle.settlement.specs.declared.limits.Refusal.{Refusal}
 use Rattle.settlement.specs.declared.editions.Edition.{Ghosts as EditionGhosts}
 use Rattle.settlement.specs.Editions.{Lawful}
 use Rattle.settlement.specs.Formulas.{figures_at}
-use Rattle.settlement.specs.Rulings.{unless, ruled}
 use Rattle.record_store.specs.Meaning.{Meaning}
 use Rattle.book.specs.declared.calls.Answer.{Answer}
-use Rattle.book.specs.declared.calls.Answer.TheVariants.{Line, Figures}
-use Rattle.book.specs.declared.calls.Call.TheVariants.{AskHour, AskInterval}
+use Rattle.book.specs.declared.calls.Answer.TheVariants.{Figures}
+use Rattle.book.specs.declared.calls.Call.TheVariants.{AskInterval}
 use Rattle.book.specs.declared.faults.Fault.{Fault}
-use Rattle.book.specs.declared.faults.Fault.TheVariants.{NoHour}
-use Rattle.book.specs.declared.figures.Row.{Row}
-use Rattle.book.specs.Lines.{row_at}
 use Rattle.book.specs.Outcome.{Account, answer, unfit, judged, at_place, as_answer, view, standing}
 use Rattle.book.specs.Gate.{Gated}
-use Rattle.book.proofs.Laws.{Formed, gated}
+use Rattle.book.proofs.Laws.{gated}
 use Rattle.statement.specs.declared.statement.Statement.{Statement}
 use Rattle.statement.specs.Accounts.{kept_in}
 use Rattle.statement.proofs.Forming.{formed}
-
-module _ (a : Account) (formed : Formed a) (hour : ℕ) where
-  pub line_told : (r : Row) → r ≡ row_at a.table hour → hour < a.table.hours → Gated a (AskHour hour) (Ok (Line r.line)) a
-  line_told r read l =
-      gated a (AskHour hour) _ a formed
-      (record {
-        answer =
-            ap (λ (r : Row). Ok (Line r.line)) read
-            ∙ ap (λ b. ruled (unless b (NoHour hour 0) None) (Line (row_at a.table hour).line)) (sym (lt-ltb hour a.table.hours l));
-        after = refl;
-      })
-
-  pub line_refused : a.table.hours ≤ hour → Gated a (AskHour hour) (Err (NoHour hour 0)) a
-  line_refused l =
-      gated a (AskHour hour) _ a formed
-      (record { answer = ap (λ b. ruled (unless b (NoHour hour 0) None) (Line (row_at a.table hour).line)) (sym (le-ltb hour a.table.hours l)); after = refl })
 
 module _ {E : Type 0} (edition : EditionGhosts E) (lawful : (e : E) → Lawful (edition.terms e)) (statement : Statement E) (m : Meaning) (hour slot : ℕ) where
   abbrev a : Account
