@@ -1,5 +1,4 @@
 pub mod Forming
-pub mod Loading
 pub mod Summing
 pub mod Settling
 pub mod Making

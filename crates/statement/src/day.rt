@@ -1,7 +1,7 @@
 // The line of a day, added up from its rows.
 ghost use Rattle.std.specs.Prelude.{◌≡◌, ℕ, ◌+◌, ◌*◌, ◌^◌, ◌≤◌, true, ◌+ℤ◌, slice_index_or, unsigned_abs};
 ghost use Rattle.settlement.specs.Bounds.{is_small_amounts};
-ghost use Rattle.book.specs.Lines.{settled_one, day_of, no_row};
+ghost use Rattle.book.specs.Lines.{day_of, no_row};
 ghost use Rattle.statement.specs.Days.{is_day_part, AmountsRoom, DayRoom, amounts_plus, day_plus};
 
 use book::{DayLine, Row};
@@ -28,17 +28,6 @@ fn plus_amounts(sum: &Amounts, amounts: &Amounts) -> Amounts
     }
 }
 
-// One for a settled hour.
-fn settled_one(state: State) -> u8
-    ensures is { result ≡ settled_one state }
-    ensures small { result ≤ 1 }
-{
-    match state {
-        State::Settled => 1,
-        State::Unsettled => 0,
-    }
-}
-
 // One hour more. There is room for those of the longest day.
 fn plus_line(day: &DayLine, line: &HourLine) -> DayLine
     requires day { DayRoom day.now 24 }
@@ -46,7 +35,7 @@ fn plus_line(day: &DayLine, line: &HourLine) -> DayLine
     ensures { result ≡ day_plus day.now line.now }
 {
     DayLine {
-        settled: day.settled + settled_one(line.state),
+        settled: day.settled + u8::from(line.state == State::Settled),
         intervals: day.intervals + line.intervals as u16,
         seconds: day.seconds + line.seconds as u32,
         ahead: plus_amounts(&day.ahead, &line.ahead),

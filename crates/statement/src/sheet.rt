@@ -8,7 +8,8 @@ use crate::day::added_up;
 use book::{Fault, Row, Table};
 use settlement::Region;
 
-// What a statement keeps, open or locked. Its day line is the sum of its rows, and no hour holds more than 3,600 seconds.
+// What a statement keeps, open or locked. Its day line is the sum of its rows,
+// and no hour holds more than 3,600 seconds.
 #[derive(Drop)]
 pub(crate) struct Sheet {
     pub table: Table,

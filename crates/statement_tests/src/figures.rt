@@ -1,13 +1,28 @@
 // What the tables are made of.
 use book::{Answer, Call, Change, Fault, Layer, Report};
+use record_store::{Place, Store};
 use samples::FIVE_MINUTES;
-use settlement::{Interval, Prices, Schedule};
+use settlement::{Interval, Newer, Prices, Schedule};
+use statement::Statement;
+use std::test::Fail;
+
+// What the memory of a pool holds before: a record, of which a store shows nothing.
+pub const PLACE: Place<Interval> = Place {
+    hour: 0,
+    slot: 0,
+    content: FIVE_MINUTES,
+};
 
 pub const DEAR: Prices = Prices {
     energy: 1_000_001,
     loss: 0,
     congestion: 0,
 };
+
+// A day over a store, for a test that can't go on without it.
+pub fn open<S: Store>(hours: u8, region: u8, store: &S) -> Result<Statement<Newer>, Fail> {
+    Statement::open(Newer, hours, region, store).map_err(|_| Fail::new("not opened"))
+}
 
 pub fn schedule(hour: u8, row: Schedule) -> Call {
     Call::Make(Change::Scheduled { hour, row })

@@ -1,5 +1,6 @@
 use crate::closing_line;
-use record_store::{Place, Pool, Store};
+use crate::figures::PLACE;
+use record_store::{Pool, Store};
 use samples::FIVE_MINUTES;
 use settlement::Newer;
 use statement::Statement;
@@ -7,15 +8,14 @@ use std::test::Fail;
 
 // The number that an opening is refused by.
 fn opened<S: Store>(store: &S, hours: u8, region: u8) -> Option<u8> {
-    match Statement::open(Newer, hours, region, store) {
-        Ok(_) => None,
-        Err(fault) => Some(fault.report().number),
-    }
+    Statement::open(Newer, hours, region, store)
+        .err()
+        .map(|fault| fault.report().number)
 }
 
 #[test]
 fn an_opening_names_the_first_thing_that_is_wrong(rt: HostRuntime) {
-    let mut places = [Place::default(); 24];
+    let mut places = [PLACE; 24];
     let mut pool = Pool::over(&mut places);
     for (hours, region, refused) in [
         (22, 2, Some(1)),
@@ -39,7 +39,7 @@ fn an_opening_names_the_first_thing_that_is_wrong(rt: HostRuntime) {
 
 #[test]
 fn a_locked_statement_has_the_lines_of_the_open_one(rt: HostRuntime) -> Result<(), Fail> {
-    let mut places = [Place::default(); 24];
+    let mut places = [PLACE; 24];
     let mut pool = Pool::over(&mut places);
     match closing_line(&mut pool) {
         Ok(day) => {

@@ -1,8 +1,10 @@
-use crate::figures::{DEAR, full, lasting, post, read, refused, schedule, told, unread, withdraw};
+use crate::figures::{
+    DEAR, PLACE, full, lasting, open, post, read, refused, schedule, told, unread, withdraw,
+};
 use book::{Call, Report};
 use record_store::{Journal, Place, Pool, Store};
 use samples::{FIVE_MINUTES, SOLD};
-use settlement::{Edition, Interval, Newer, Schedule};
+use settlement::{Edition, Interval, Schedule};
 use statement::Statement;
 use std::test::Fail;
 
@@ -28,11 +30,9 @@ const DONE: Option<Report> = None;
 
 #[test]
 fn each_refusal_of_a_schedule_row_and_of_a_reading() -> Result<(), Fail> {
-    let mut places = [Place::default(); 24];
+    let mut places = [PLACE; 24];
     let mut pool = Pool::over(&mut places);
-    let Ok(mut statement) = Statement::open(Newer, 24, 0, &pool) else {
-        return Err(Fail::new("not opened"));
-    };
+    let mut statement = open(24, 0, &pool)?;
     let bad = Schedule {
         generation: -1,
         prices: DEAR,
@@ -69,11 +69,9 @@ fn each_refusal_of_a_schedule_row_and_of_a_reading() -> Result<(), Fail> {
 
 #[test]
 fn each_refusal_of_a_posting_and_of_a_withdrawal() -> Result<(), Fail> {
-    let mut places = [Place::default(); 24];
+    let mut places = [PLACE; 24];
     let mut pool = Pool::over(&mut places);
-    let Ok(mut statement) = Statement::open(Newer, 23, 1, &pool) else {
-        return Err(Fail::new("not opened"));
-    };
+    let mut statement = open(23, 1, &pool)?;
     let dear = Interval {
         prices: DEAR,
         ..FIVE_MINUTES
@@ -111,11 +109,9 @@ fn each_refusal_of_a_posting_and_of_a_withdrawal() -> Result<(), Fail> {
 
 #[test]
 fn each_refusal_of_a_question() -> Result<(), Fail> {
-    let mut places = [Place::default(); 24];
+    let mut places = [PLACE; 24];
     let mut pool = Pool::over(&mut places);
-    let Ok(mut statement) = Statement::open(Newer, 25, 0, &pool) else {
-        return Err(Fail::new("not opened"));
-    };
+    let mut statement = open(25, 0, &pool)?;
     play(
         &mut statement,
         &mut pool,
@@ -146,11 +142,9 @@ fn fill<E: Edition, S: Store>(statement: &mut Statement<E>, store: &mut S) -> Re
 
 #[test]
 fn a_full_store_refuses_last() -> Result<(), Fail> {
-    let mut places = [Place::default(); 24];
+    let mut places = [PLACE; 24];
     let mut pool = Pool::over(&mut places);
-    let Ok(mut statement) = Statement::open(Newer, 24, 0, &pool) else {
-        return Err(Fail::new("not opened"));
-    };
+    let mut statement = open(24, 0, &pool)?;
     fill(&mut statement, &mut pool)?;
     play(
         &mut statement,
@@ -169,9 +163,7 @@ fn a_full_store_refuses_last() -> Result<(), Fail> {
 fn a_full_journal_refuses_a_correction_and_a_withdrawal() -> Result<(), Fail> {
     let mut places = [Place::default(); 24];
     let mut journal = Journal::over(&mut places);
-    let Ok(mut statement) = Statement::open(Newer, 24, 0, &journal) else {
-        return Err(Fail::new("not opened"));
-    };
+    let mut statement = open(24, 0, &journal)?;
     fill(&mut statement, &mut journal)?;
     play(
         &mut statement,
@@ -187,11 +179,9 @@ fn a_full_journal_refuses_a_correction_and_a_withdrawal() -> Result<(), Fail> {
 
 #[test]
 fn records_that_break_a_limit_are_refused_after_the_hour(rt: HostRuntime) -> Result<(), Fail> {
-    let mut places = [Place::default(); 24];
+    let mut places = [PLACE; 24];
     let mut pool = Pool::over(&mut places);
-    let Ok(mut statement) = Statement::open(Newer, 24, 0, &pool) else {
-        return Err(Fail::new("not opened"));
-    };
+    let mut statement = open(24, 0, &pool)?;
     assert!(rt;
         pool.write(3, 0, &lasting(5)).is_ok(),
         "the store looks at no limit"

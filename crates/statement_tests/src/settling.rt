@@ -1,8 +1,8 @@
-use crate::figures::lasting;
+use crate::figures::{PLACE, lasting, open};
 use book::Fault;
-use record_store::{Place, Pool, Store};
+use record_store::{Pool, Store};
 use samples::{FIVE_MINUTES, SOLD};
-use settlement::{Edition, Newer, State};
+use settlement::{Edition, State};
 use statement::Statement;
 use std::test::Fail;
 
@@ -22,11 +22,9 @@ fn line<E: Edition>(statement: &Statement<E>) -> Option<(State, i64, i64)> {
 
 #[test]
 fn the_last_five_minutes_settle_the_hour(rt: HostRuntime) -> Result<(), Fail> {
-    let mut places = [Place::default(); 24];
+    let mut places = [PLACE; 24];
     let mut pool = Pool::over(&mut places);
-    let Ok(mut statement) = Statement::open(Newer, 24, 0, &pool) else {
-        return Err(Fail::new("not opened"));
-    };
+    let mut statement = open(24, 0, &pool)?;
     assert!(rt; statement.schedule(&pool, 3, &SOLD).is_ok());
     assert!(rt; eleven(&mut statement, &mut pool).is_ok());
     assert_eq!(rt; line(&statement), Some((State::Unsettled, 0, 169_000)));
@@ -43,11 +41,9 @@ fn the_last_five_minutes_settle_the_hour(rt: HostRuntime) -> Result<(), Fail> {
 
 #[test]
 fn a_correction_shares_the_reading_again(rt: HostRuntime) -> Result<(), Fail> {
-    let mut places = [Place::default(); 24];
+    let mut places = [PLACE; 24];
     let mut pool = Pool::over(&mut places);
-    let Ok(mut statement) = Statement::open(Newer, 24, 0, &pool) else {
-        return Err(Fail::new("not opened"));
-    };
+    let mut statement = open(24, 0, &pool)?;
     assert!(rt; statement.schedule(&pool, 3, &SOLD).is_ok());
     assert!(rt; eleven(&mut statement, &mut pool).is_ok());
     assert!(rt; statement.post(&mut pool, 3, 11, &FIVE_MINUTES).is_ok());

@@ -12,6 +12,7 @@ use book::Fault;
 use record_store::Store;
 use settlement::{Edition, Interval, Schedule};
 
+// Each has its own three or four lines: one function over a closure would need a contract longer than what it saves.
 impl<E: Edition> Statement<E> {
     // A schedule row for an hour, in the place of a former one.
     pub fn schedule<S: Store>(&mut self, store: &S, hour: u8, row: &Schedule) -> Result<(), Fault>

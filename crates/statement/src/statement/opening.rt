@@ -57,8 +57,8 @@ impl<E: Edition> Statement<E> {
         })
     }
 
-    // Opens a day and makes the calls of a log, noting the answer of each. A refused opening leaves log and store as they
-    // were.
+    // Opens a day and makes the calls of a log, noting the answer of each.
+    // A refused opening leaves log and store as they were.
     pub fn play<S: Store>(
         edition: E,
         hours: u8,

@@ -33,7 +33,7 @@ impl<E: Edition> Statement<E> {
         )
     }
 
-    // The line of the day, as a locked statement has it too.
+    // The line of the day. A locked statement reads the same field, under a contract of its own.
     pub fn day_line(&self) -> DayLine
         ensures { (m : Meaning) → Gated (kept_in E.Edition self.now m) AskDay (Ok (Day result)) (kept_in E.Edition self.now m) }
     {

@@ -9,7 +9,8 @@ use book::{Fault, Row};
 use record_store::Store;
 use settlement::{Edition, Hour, Refusal, Standing};
 
-// What an hour answers to a call, with the call's place in its fault: hour and slot, which only a fault keeps together.
+// What an hour answers to a call. An hour does not know its number, so the call's hour and slot are put into its fault
+// here; they go as two bytes, since nothing else takes them together.
 pub(super) fn placed<T>(answer: Result<T, Refusal>, hour: u8, slot: u8) -> Result<T, Fault>
     ensures { result ≡ at_place hour slot answer }
 {

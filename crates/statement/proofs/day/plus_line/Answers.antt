@@ -1,4 +1,10 @@
-use Rattle.std.proofs.Common.{◌+◌}
+use Rattle.std.proofs.Common.{◌≡◌, ◌+◌, refl, ap, ◌∙◌}
+use Rattle.settlement.specs.declared.figures.State.{State}
+use Rattle.settlement.specs.declared.figures.State.TheVariants.{Unsettled, Settled}
+use Rattle.book.specs.Lines.{settled_one}
+use mir.Val.{bool_byte}
+use denote.Enum.Bare.{sameb}
+use Rattle.settlement.specs.contracts.figures.State.{the_type}
 use Rattle.arithmetic.proofs.Machine.{sized}
 use Rattle.statement.proofs.Summing.{small_line, summed, figure, plus_is}
 use Rattle.statement.proofs.day.plus_line.Goals as goal
@@ -21,12 +27,17 @@ pub plus-requires-3 : goal.plus-requires-3
 plus-requires-3 c =
     record { sum = sized (summed c.args.day.now.total c.requires.day.total); figure = sized (figure c.args.line.now.total (small_line c.args.line.now c.requires.line).total) }
 
+-- The test of a state, as a number.
+counted : (s : State) → bool_byte (sameb the_type s Settled) ≡ settled_one s
+counted Unsettled = refl
+counted Settled = refl
+
 pub returns : goal.returns
 returns c =
     let d = c.args.day.now in
     let l = c.args.line.now in
     let small = small_line l c.requires.line in
-    let settled = c.settled_one.ensures.is in
+    let settled : c.from.result ≡ settled_one l.state = c.from.ensures ∙ ap bool_byte c.eq.ensures ∙ counted l.state in
     let ahead = c.plus_amounts.ensures in
     let balance = plus_is c.plus.result d.balance l.balance c.requires.day.balance small.balance c.plus.ensures in
     let balancing = c.plus_amounts-2.ensures in

@@ -1,35 +1,20 @@
-use Rattle.std.proofs.Common.{ap}
-use Rattle.book.specs.declared.calls.Change.TheVariants.{Posted}
-use Rattle.statement.specs.Accounts.{account}
-use Rattle.statement.proofs.Forming.{formed}
 use Rattle.statement.proofs.Making.{stops_unfit, stops_hour, stops_store, goes_through}
 use Rattle.statement.proofs.statement.Statement.post.Goals as goal
 
 pub returns-in_err-standing : goal.returns-in_err-standing
 returns-in_err-standing g c =
-    let a = account g.E.Edition g.S.Store c.args.self.now c.args.store.now in
-    let change = Posted c.args.hour c.args.slot c.args.interval.now in
-    stops_unfit a change (formed g.E.Edition c.args.self.now _ (g.met.E.Edition.lawful _)) _ _ c.from_residual.ensures.1 c.in_err-standing.ensures
+    stops_unfit g.E.Edition g.met.E.Edition.lawful c.args.self.now _ _ _ c.from_residual.ensures.1 c.in_err-standing.ensures
 
 pub returns-in_err-placed : goal.returns-in_err-placed
 returns-in_err-placed g c =
-    let a = account g.E.Edition g.S.Store c.args.self.now c.args.store.now in
-    let change = Posted c.args.hour c.args.slot c.args.interval.now in
-    let h = c.in_ok-standing.ensures in
-    stops_hour a change (formed g.E.Edition c.args.self.now _ (g.met.E.Edition.lawful _)) h.0 _ h.1 _ c.post.ensures.answer _ _ c.from_residual-in_err-placed.ensures.1 c.in_err-placed.ensures
+    stops_hour g.E.Edition g.met.E.Edition.lawful c.args.self.now _ _ c.in_ok-standing.ensures c.post.ensures.answer _ c.from_residual-in_err-placed.ensures.1 c.in_err-placed.ensures
 
 pub returns-in_err-write : goal.returns-in_err-write
 returns-in_err-write g c =
-    let a = account g.E.Edition g.S.Store c.args.self.now c.args.store.now in
-    let change = Posted c.args.hour c.args.slot c.args.interval.now in
-    let h = c.in_ok-standing.ensures in
-    stops_store a change (formed g.E.Edition c.args.self.now _ (g.met.E.Edition.lawful _)) h.0 _ h.1 _ c.post.ensures.answer _ c.in_ok-placed.ensures _ _ _ c.from_residual-in_err-write.ensures.1
-    c.in_err-write.ensures.answer c.write.ensures.after
+    stops_store g.E.Edition g.met.E.Edition.lawful c.args.self.now _ _ c.in_ok-standing.ensures c.post.ensures.answer c.in_ok-placed.ensures
+    _ c.from_residual-in_err-write.ensures.1 c.in_err-write.ensures.answer c.write.ensures.after
 
 pub returns : goal.returns
 returns g c =
-    let a = account g.E.Edition g.S.Store c.args.self.now c.args.store.now in
-    let change = Posted c.args.hour c.args.slot c.args.interval.now in
-    let h = c.in_ok-standing.ensures in
-    goes_through a change (formed g.E.Edition c.args.self.now _ (g.met.E.Edition.lawful _)) h.0 _ h.1 _ c.post.ensures.answer _ c.in_ok-placed.ensures _ _ _ _ _
-    c.post.ensures.after c.in_ok-write.ensures.answer c.write.ensures.after (ap g.E.Edition.terms c.settle.ensures.edition) c.settle.ensures.table
+    goes_through g.E.Edition g.met.E.Edition.lawful c.args.self.now _ _ c.in_ok-standing.ensures c.post.ensures.answer c.in_ok-placed.ensures
+    c.post.ensures.after c.in_ok-write.ensures.answer c.write.ensures.after c.settle.ensures.edition c.settle.ensures.table

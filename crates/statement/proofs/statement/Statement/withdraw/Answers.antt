@@ -1,35 +1,20 @@
-use Rattle.std.proofs.Common.{ap}
-use Rattle.book.specs.declared.calls.Change.TheVariants.{Withdrawn}
-use Rattle.statement.specs.Accounts.{account}
-use Rattle.statement.proofs.Forming.{formed}
 use Rattle.statement.proofs.Making.{stops_unfit, stops_hour, stops_store, goes_through}
 use Rattle.statement.proofs.statement.Statement.withdraw.Goals as goal
 
 pub returns-in_err-standing : goal.returns-in_err-standing
 returns-in_err-standing g c =
-    let a = account g.E.Edition g.S.Store c.args.self.now c.args.store.now in
-    let change = Withdrawn c.args.hour c.args.slot in
-    stops_unfit a change (formed g.E.Edition c.args.self.now _ (g.met.E.Edition.lawful _)) _ _ c.from_residual.ensures.1 c.in_err-standing.ensures
+    stops_unfit g.E.Edition g.met.E.Edition.lawful c.args.self.now _ _ _ c.from_residual.ensures.1 c.in_err-standing.ensures
 
 pub returns-in_err-placed : goal.returns-in_err-placed
 returns-in_err-placed g c =
-    let a = account g.E.Edition g.S.Store c.args.self.now c.args.store.now in
-    let change = Withdrawn c.args.hour c.args.slot in
-    let h = c.in_ok-standing.ensures in
-    stops_hour a change (formed g.E.Edition c.args.self.now _ (g.met.E.Edition.lawful _)) h.0 _ h.1 _ c.withdraw.ensures.answer _ _ c.from_residual-in_err-placed.ensures.1 c.in_err-placed.ensures
+    stops_hour g.E.Edition g.met.E.Edition.lawful c.args.self.now _ _ c.in_ok-standing.ensures c.withdraw.ensures.answer _ c.from_residual-in_err-placed.ensures.1 c.in_err-placed.ensures
 
 pub returns-in_err-take : goal.returns-in_err-take
 returns-in_err-take g c =
-    let a = account g.E.Edition g.S.Store c.args.self.now c.args.store.now in
-    let change = Withdrawn c.args.hour c.args.slot in
-    let h = c.in_ok-standing.ensures in
-    stops_store a change (formed g.E.Edition c.args.self.now _ (g.met.E.Edition.lawful _)) h.0 _ h.1 _ c.withdraw.ensures.answer _ c.in_ok-placed.ensures _ _ _ c.from_residual-in_err-take.ensures.1
-    c.in_err-take.ensures.answer c.take.ensures.after
+    stops_store g.E.Edition g.met.E.Edition.lawful c.args.self.now _ _ c.in_ok-standing.ensures c.withdraw.ensures.answer c.in_ok-placed.ensures
+    _ c.from_residual-in_err-take.ensures.1 c.in_err-take.ensures.answer c.take.ensures.after
 
 pub returns : goal.returns
 returns g c =
-    let a = account g.E.Edition g.S.Store c.args.self.now c.args.store.now in
-    let change = Withdrawn c.args.hour c.args.slot in
-    let h = c.in_ok-standing.ensures in
-    goes_through a change (formed g.E.Edition c.args.self.now _ (g.met.E.Edition.lawful _)) h.0 _ h.1 _ c.withdraw.ensures.answer _ c.in_ok-placed.ensures _ _ _ _ _
-    c.withdraw.ensures.after c.in_ok-take.ensures.answer c.take.ensures.after (ap g.E.Edition.terms c.settle.ensures.edition) c.settle.ensures.table
+    goes_through g.E.Edition g.met.E.Edition.lawful c.args.self.now _ _ c.in_ok-standing.ensures c.withdraw.ensures.answer c.in_ok-placed.ensures
+    c.withdraw.ensures.after c.in_ok-take.ensures.answer c.take.ensures.after c.settle.ensures.edition c.settle.ensures.table
