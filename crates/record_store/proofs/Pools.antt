@@ -1,6 +1,10 @@
 -- A pool: one record rewritten, one more, and one less.
 use Rattle.std.proofs.Common.{◌≡◌, ℕ, ◌+◌, ◌-◌, ◌<◌, cond, ◌&&◌, eqb, length, pos, Some, None, Option, Ok, Err, Result, MatchResult, sym, refl, ap, ◌∙◌, subst, arith}
 use mathlib.Core.Path.{fun_ext}
+use mathlib.Core.HLevel.{is_prop→PathP}
+use Rattle.std.proofs.Math.Nat.{ℕ_set}
+use Rattle.record_store.specs.declared.shelf.Shelf.{Shelf}
+use Rattle.std.specs.Result.{OnErr}
 use Rattle.std.proofs.lemmas.List.{length-set}
 use Rattle.std.proofs.lemmas.Bool.{lt-ltb, le-ltb}
 use Rattle.settlement.specs.Rulings.{ruled, changed}
@@ -105,3 +109,15 @@ module _ (p : Pool) (k : Key) where
             subst (Once x) (same_removed before x d at k.hour k.slot (p.shelf.in_use (key k.hour k.slot) at f) p.shelf.within) (left_once x before (sound x) (all x) k.hour k.slot at k.hours k.slots f);
         means = means_by (removed d before at k.hour k.slot) (pool_means before) k.hour k.slot None (left_held d before (sound d) (all d) k.hour k.slot at k.hours k.slots f) (length-set p.shelf.places.now at _) refl;
       }
+
+-- A pool is the same where its shelf is the same: that no slot stands twice has one proof.
+pub same : (p : Pool) (s : Shelf Interval) (o : (d : Place Interval) → Once d (contents s)) → s ≡ p.shelf → record { shelf = s; once = o } ≡ p
+same p s o is = λ i. record { shelf = is i; once = is_prop→PathP (λ j. (d : Place Interval) → Once d (contents (is j))) (λ j. once_prop (contents (is j))) o p.once i }
+  where
+    once_prop : (c : Contents Interval) → IsProp ((d : Place Interval) → Once d c)
+    once_prop c = hlevel ℕ_set
+
+-- A shelf that refused is the one that it was, and so is its pool.
+pub same_refused : (p : Pool) (s : Shelf Interval) (o : (d : Place Interval) → Once d (contents s)) (r : Result (Unit {0}) StoreFault) → OnErr r (s ≡ p.shelf) → OnErr r (record { shelf = s; once = o } ≡ p)
+same_refused p s o (Ok done) is = tt
+same_refused p s o (Err fault) is = same p s o is

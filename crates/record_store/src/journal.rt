@@ -1,5 +1,5 @@
 // A store that only adds entries: each change to a slot is one more, and the latest for a slot counts.
-ghost use Rattle.std.specs.Prelude.{◌≡◌, ◌+◌, length, Some, None, MatchResult};
+ghost use Rattle.std.specs.Prelude.{◌≡◌, ◌+◌, length, Some, None, MatchResult, OnErr};
 ghost use Rattle.settlement.specs.Rulings.{ruled, changed};
 ghost use Rattle.record_store.specs.Meaning.{fresh, full_refused, rewritten};
 ghost use Rattle.record_store.specs.Places.{places_refused, capacity_of};
@@ -41,6 +41,7 @@ impl<'a> Journal<'a> {
     fn enter(&mut self, key: Key, entry: Option<Interval>) -> Result<(), StoreFault>
         ensures answer { result ≡ ruled (full_refused (journal_means (contents self.old.shelf)) key.hour key.slot) tt }
         ensures after { journal_means (contents self.new.shelf) ≡ changed (full_refused (journal_means (contents self.old.shelf)) key.hour key.slot) (rewritten (journal_means (contents self.old.shelf)) key.hour key.slot entry (self.old.shelf.used + 1)) (journal_means (contents self.old.shelf)) }
+        ensures kept { OnErr result (self.new ≡ self.old) }
     {
         self.shelf.push(key, entry)
     }

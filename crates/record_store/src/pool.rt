@@ -1,5 +1,5 @@
 // A store that reuses its places: as much is spent as stands, and a rewrite costs nothing.
-ghost use Rattle.std.specs.Prelude.{◌≡◌, ◌+◌, ◌-◌, length, Some, None, MatchResult};
+ghost use Rattle.std.specs.Prelude.{◌≡◌, ◌+◌, ◌-◌, length, Some, None, MatchResult, OnErr};
 ghost use Rattle.settlement.specs.declared.figures.Interval.{Interval};
 ghost use Rattle.record_store.specs.declared.places.Place.{Place};
 ghost use Rattle.settlement.specs.Rulings.{ruled, changed};
@@ -56,6 +56,7 @@ impl<'a> Pool<'a> {
         requires { named (contents self.old.shelf) (key_of key.hour key.slot) ≡ None }
         ensures answer { result ≡ ruled (full_refused (pool_means (contents self.old.shelf)) key.hour key.slot) tt }
         ensures after { pool_means (contents self.new.shelf) ≡ changed (full_refused (pool_means (contents self.old.shelf)) key.hour key.slot) (rewritten (pool_means (contents self.old.shelf)) key.hour key.slot (Some interval.now) (self.old.shelf.used + 1)) (pool_means (contents self.old.shelf)) }
+        ensures kept { OnErr result (self.new ≡ self.old) }
     {
         self.shelf.push(key, *interval)
     }

@@ -1,5 +1,5 @@
 // What every store does.
-ghost use Rattle.std.specs.Prelude.{◌≡◌};
+ghost use Rattle.std.specs.Prelude.{◌≡◌, OnErr};
 ghost use Rattle.record_store.specs.Meaning.{Meaning, Lawful, write_refused, take_refused, written, taken, hour_records};
 ghost use Rattle.settlement.specs.Rulings.{ruled, changed};
 
@@ -21,12 +21,14 @@ pub trait Store {
     // Has a record stand in a slot, in the place of what stood there.
     fn write(&mut self, hour: u8, slot: u8, interval: &Interval) -> Result<(), StoreFault>
         ensures answer { result ≡ ruled (write_refused (means self.old) hour slot) tt }
-        ensures after { means self.new ≡ changed (write_refused (means self.old) hour slot) (written (means self.old) hour slot interval.now) (means self.old) };
+        ensures after { means self.new ≡ changed (write_refused (means self.old) hour slot) (written (means self.old) hour slot interval.now) (means self.old) }
+        ensures kept { OnErr result (self.new ≡ self.old) };
 
     // Takes away what stands in a slot, if anything.
     fn take(&mut self, hour: u8, slot: u8) -> Result<(), StoreFault>
         ensures answer { result ≡ ruled (take_refused (means self.old) hour slot) tt }
-        ensures after { means self.new ≡ changed (take_refused (means self.old) hour slot) (taken (means self.old) hour slot) (means self.old) };
+        ensures after { means self.new ≡ changed (take_refused (means self.old) hour slot) (taken (means self.old) hour slot) (means self.old) }
+        ensures kept { OnErr result (self.new ≡ self.old) };
 
     // How much is spent.
     fn spent(&self) -> usize

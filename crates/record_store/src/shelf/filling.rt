@@ -1,5 +1,5 @@
 // What a shelf has, and filling it and emptying it, a place at a time.
-ghost use Rattle.std.specs.Prelude.{◌≡◌, ◌≤◌, length, take, is_some, Some, MatchResult};
+ghost use Rattle.std.specs.Prelude.{◌≡◌, ◌≤◌, length, take, is_some, Some, MatchResult, OnErr};
 ghost use Rattle.record_store.specs.declared.places.Place.{Place};
 ghost use Rattle.record_store.specs.Meaning.{bounded};
 ghost use Rattle.record_store.specs.Places.{capacity_of};
@@ -77,7 +77,8 @@ impl<'a, T: Copy> Shelf<'a, T> {
 
     // Lays a record into the first place that is not in use, if there is one.
     pub fn push(&mut self, key: Key, content: T) -> Result<(), StoreFault>
-        ensures { MatchResult result (Pushed (contents self.old) (record { hour = key.hour; slot = key.slot; content = content }) (contents self.new)) (Unpushed (contents self.old) key.hour key.slot (contents self.new)) }
+        ensures laid { MatchResult result (Pushed (contents self.old) (record { hour = key.hour; slot = key.slot; content = content }) (contents self.new)) (Unpushed (contents self.old) key.hour key.slot (contents self.new)) }
+        ensures kept { OnErr result (self.new ≡ self.old) }
     {
         if self.used() >= self.capacity() {
             let Key { hour, slot } = key;

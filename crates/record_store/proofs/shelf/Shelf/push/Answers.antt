@@ -22,5 +22,5 @@ invariant_of-self g c =
       indexing = λ d. rw (c.index.ensures.number, c.place.ensures) (f.indexing d);
     }
 
-pub returns : goal.returns
-returns g c = (omega (arith, c.if-used-capacity.false, c.used.ensures, c.capacity.ensures), rw (c.index.ensures.number, c.place.ensures) refl)
+pub returns-clause-laid : goal.returns-clause-laid
+returns-clause-laid g c = (omega (arith, c.if-used-capacity.false, c.used.ensures, c.capacity.ensures), rw (c.index.ensures.number, c.place.ensures) refl)
