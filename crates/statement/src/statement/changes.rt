@@ -1,5 +1,5 @@
 // The changes to a day. A refused change leaves the statement and the store as they were.
-ghost use Rattle.std.specs.Prelude.{◌≡◌};
+ghost use Rattle.std.specs.Prelude.{◌≡◌, OnErr};
 ghost use Rattle.book.specs.declared.calls.Call.TheVariants.{Make};
 ghost use Rattle.book.specs.declared.calls.Change.TheVariants.{Scheduled, Posted, Withdrawn, Read, Unread};
 ghost use Rattle.book.specs.Outcome.{done};
@@ -16,7 +16,8 @@ use settlement::{Edition, Interval, Schedule};
 impl<E: Edition> Statement<E> {
     // A schedule row for an hour, in the place of a former one.
     pub fn schedule<S: Store>(&mut self, store: &S, hour: u8, row: &Schedule) -> Result<(), Fault>
-        ensures { Gated (account E.Edition S.Store self.old store.now) (Make (Scheduled hour row.now)) (done result) (account E.Edition S.Store self.new store.now) }
+        ensures gated { Gated (account E.Edition S.Store self.old store.now) (Make (Scheduled hour row.now)) (done result) (account E.Edition S.Store self.new store.now) }
+        ensures kept { OnErr result (self.new ≡ self.old) }
     {
         let mut standing = self.load(store, hour, 0)?;
         placed(standing.schedule(row), hour, 0)?;
@@ -32,7 +33,8 @@ impl<E: Edition> Statement<E> {
         slot: u8,
         interval: &Interval,
     ) -> Result<(), Fault>
-        ensures { Gated (account E.Edition S.Store self.old store.old) (Make (Posted hour slot interval.now)) (done result) (account E.Edition S.Store self.new store.new) }
+        ensures gated { Gated (account E.Edition S.Store self.old store.old) (Make (Posted hour slot interval.now)) (done result) (account E.Edition S.Store self.new store.new) }
+        ensures kept { OnErr result ((self.new ≡ self.old) × (store.new ≡ store.old)) }
     {
         let mut standing = self.load(store, hour, slot)?;
         placed(standing.post(slot, interval), hour, slot)?;
@@ -43,7 +45,8 @@ impl<E: Edition> Statement<E> {
 
     // No record for a slot.
     pub fn withdraw<S: Store>(&mut self, store: &mut S, hour: u8, slot: u8) -> Result<(), Fault>
-        ensures { Gated (account E.Edition S.Store self.old store.old) (Make (Withdrawn hour slot)) (done result) (account E.Edition S.Store self.new store.new) }
+        ensures gated { Gated (account E.Edition S.Store self.old store.old) (Make (Withdrawn hour slot)) (done result) (account E.Edition S.Store self.new store.new) }
+        ensures kept { OnErr result ((self.new ≡ self.old) × (store.new ≡ store.old)) }
     {
         let mut standing = self.load(store, hour, slot)?;
         placed(standing.withdraw(slot), hour, slot)?;
@@ -54,7 +57,8 @@ impl<E: Edition> Statement<E> {
 
     // A reading for an hour, in the place of a former one.
     pub fn read<S: Store>(&mut self, store: &S, hour: u8, kwh: i32) -> Result<(), Fault>
-        ensures { Gated (account E.Edition S.Store self.old store.now) (Make (Read hour kwh)) (done result) (account E.Edition S.Store self.new store.now) }
+        ensures gated { Gated (account E.Edition S.Store self.old store.now) (Make (Read hour kwh)) (done result) (account E.Edition S.Store self.new store.now) }
+        ensures kept { OnErr result (self.new ≡ self.old) }
     {
         let mut standing = self.load(store, hour, 0)?;
         placed(standing.read(kwh), hour, 0)?;
@@ -64,7 +68,8 @@ impl<E: Edition> Statement<E> {
 
     // No reading for an hour.
     pub fn unread<S: Store>(&mut self, store: &S, hour: u8) -> Result<(), Fault>
-        ensures { Gated (account E.Edition S.Store self.old store.now) (Make (Unread hour)) (done result) (account E.Edition S.Store self.new store.now) }
+        ensures gated { Gated (account E.Edition S.Store self.old store.now) (Make (Unread hour)) (done result) (account E.Edition S.Store self.new store.now) }
+        ensures kept { OnErr result (self.new ≡ self.old) }
     {
         let mut standing = self.load(store, hour, 0)?;
         placed(standing.unread(), hour, 0)?;

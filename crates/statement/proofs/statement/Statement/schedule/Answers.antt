@@ -2,15 +2,15 @@ use Rattle.std.proofs.Common.{refl}
 use Rattle.statement.proofs.Making.{stops_unfit, stops_hour, goes_through}
 use Rattle.statement.proofs.statement.Statement.schedule.Goals as goal
 
-pub returns-in_err-standing : goal.returns-in_err-standing
-returns-in_err-standing g c =
+pub returns-in_err-standing-clause-gated : goal.returns-in_err-standing-clause-gated
+returns-in_err-standing-clause-gated g c =
     stops_unfit g.E.Edition g.met.E.Edition.lawful c.args.self.now _ _ _ c.from_residual.ensures.1 c.in_err-standing.ensures
 
-pub returns-in_err-placed : goal.returns-in_err-placed
-returns-in_err-placed g c =
+pub returns-in_err-placed-clause-gated : goal.returns-in_err-placed-clause-gated
+returns-in_err-placed-clause-gated g c =
     stops_hour g.E.Edition g.met.E.Edition.lawful c.args.self.now _ _ c.in_ok-standing.ensures c.schedule.ensures.answer _ c.from_residual-in_err-placed.ensures.1 c.in_err-placed.ensures
 
-pub returns : goal.returns
-returns g c =
+pub returns-clause-gated : goal.returns-clause-gated
+returns-clause-gated g c =
     goes_through g.E.Edition g.met.E.Edition.lawful c.args.self.now _ _ c.in_ok-standing.ensures c.schedule.ensures.answer c.in_ok-placed.ensures
     c.schedule.ensures.after refl refl c.settle.ensures.edition c.settle.ensures.table

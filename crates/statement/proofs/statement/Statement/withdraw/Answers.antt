@@ -1,20 +1,20 @@
 use Rattle.statement.proofs.Making.{stops_unfit, stops_hour, stops_store, goes_through}
 use Rattle.statement.proofs.statement.Statement.withdraw.Goals as goal
 
-pub returns-in_err-standing : goal.returns-in_err-standing
-returns-in_err-standing g c =
+pub returns-in_err-standing-clause-gated : goal.returns-in_err-standing-clause-gated
+returns-in_err-standing-clause-gated g c =
     stops_unfit g.E.Edition g.met.E.Edition.lawful c.args.self.now _ _ _ c.from_residual.ensures.1 c.in_err-standing.ensures
 
-pub returns-in_err-placed : goal.returns-in_err-placed
-returns-in_err-placed g c =
+pub returns-in_err-placed-clause-gated : goal.returns-in_err-placed-clause-gated
+returns-in_err-placed-clause-gated g c =
     stops_hour g.E.Edition g.met.E.Edition.lawful c.args.self.now _ _ c.in_ok-standing.ensures c.withdraw.ensures.answer _ c.from_residual-in_err-placed.ensures.1 c.in_err-placed.ensures
 
-pub returns-in_err-take : goal.returns-in_err-take
-returns-in_err-take g c =
+pub returns-in_err-take-clause-gated : goal.returns-in_err-take-clause-gated
+returns-in_err-take-clause-gated g c =
     stops_store g.E.Edition g.met.E.Edition.lawful c.args.self.now _ _ c.in_ok-standing.ensures c.withdraw.ensures.answer c.in_ok-placed.ensures
     _ c.from_residual-in_err-take.ensures.1 c.in_err-take.ensures.answer c.take.ensures.after
 
-pub returns : goal.returns
-returns g c =
+pub returns-clause-gated : goal.returns-clause-gated
+returns-clause-gated g c =
     goes_through g.E.Edition g.met.E.Edition.lawful c.args.self.now _ _ c.in_ok-standing.ensures c.withdraw.ensures.answer c.in_ok-placed.ensures
     c.withdraw.ensures.after c.in_ok-take.ensures.answer c.take.ensures.after c.settle.ensures.edition c.settle.ensures.table
