@@ -1,5 +1,5 @@
 // Calls as they stand in a log, one by one and in a list.
-ghost use Rattle.std.specs.Prelude.{◌≡◌};
+ghost use Rattle.std.specs.Prelude.{◌≡◌, OnErr};
 ghost use Rattle.book.specs.declared.calls.Call.TheVariants.{Make};
 ghost use Rattle.book.specs.Outcome.{done};
 ghost use Rattle.book.specs.Gate.{Gated, GatedAll};
@@ -14,7 +14,8 @@ use settlement::Edition;
 impl<E: Edition> Statement<E> {
     // Makes a change.
     pub fn make<S: Store>(&mut self, store: &mut S, change: &Change) -> Result<(), Fault>
-        ensures { Gated (account E.Edition S.Store self.old store.old) (Make change.now) (done result) (account E.Edition S.Store self.new store.new) }
+        ensures gated { Gated (account E.Edition S.Store self.old store.old) (Make change.now) (done result) (account E.Edition S.Store self.new store.new) }
+        ensures kept { OnErr result ((self.new ≡ self.old) × (store.new ≡ store.old)) }
     {
         match change {
             Change::Scheduled { hour, row } => self.schedule(store, *hour, row),
@@ -31,7 +32,8 @@ impl<E: Edition> Statement<E> {
 
     // Makes a call.
     pub fn call<S: Store>(&mut self, store: &mut S, call: &Call) -> Result<Answer, Fault>
-        ensures { Gated (account E.Edition S.Store self.old store.old) call.now result (account E.Edition S.Store self.new store.new) }
+        ensures gated { Gated (account E.Edition S.Store self.old store.old) call.now result (account E.Edition S.Store self.new store.new) }
+        ensures kept { OnErr result ((self.new ≡ self.old) × (store.new ≡ store.old)) }
     {
         match call {
             Call::Make(change) => {

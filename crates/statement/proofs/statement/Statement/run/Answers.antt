@@ -9,7 +9,7 @@ pub loop-entry-init : goal.loop-entry-init
 loop-entry-init g c = run_none (account g.E.Edition g.S.Store c.args.self.now c.args.store.now) c.args.log.now
 
 pub loop-entry-preserved : goal.loop-entry-preserved
-loop-entry-preserved g c = run_more _ _ _ _ _ _ _ _ (omega arith) c.call-entry.ensures.goes c.loop-entry.invariant
+loop-entry-preserved g c = run_more _ _ _ _ _ _ _ _ (omega arith) c.call-entry.ensures.gated.goes c.loop-entry.invariant
 
 pub returns : goal.returns
 returns g c =
