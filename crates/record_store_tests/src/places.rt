@@ -32,6 +32,12 @@ fn a_store_over_too_many_places_has_no_capacity(rt: HostRuntime) -> Result<(), F
     let mut places = Vec::from_elem(rt.alloc(), used(Some(record(9))), 4_097)?;
     let journal = Journal::over(places.as_mut_slice());
     assert_eq!(rt; journal.capacity(), 0);
+    let refused = Journal::new(places.as_mut_slice()).err();
+    assert_eq!(rt; refused, Some(StoreFault::Places));
+    let mut enough = Vec::from_elem(rt.alloc(), used(Some(record(9))), 4_096)?;
+    assert!(rt; Journal::new(enough.as_mut_slice()).is_ok());
+    let mut enough = Vec::from_elem(rt.alloc(), used(record(9)), 4_096)?;
+    assert!(rt; Pool::new(enough.as_mut_slice()).is_ok());
     Ok(())
 }
 
