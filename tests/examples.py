@@ -4,7 +4,7 @@
     python3 tests/examples.py --make      writes examples/*.day and examples/*.out from the descriptions
     python3 tests/examples.py             runs both programs on each day and compares
 
-What should be printed is worked out by tests/reference.py.
+What should be printed is worked out by tests/reference.py; for the files of examples/refused.txt by hand.
 """
 import subprocess
 import sys
@@ -40,10 +40,29 @@ def same(day, edition):
     return good
 
 
+def refused():
+    """(the line printed, the bytes) of each file that is refused as a whole."""
+    for line in (EXAMPLES / "refused.txt").read_text().splitlines():
+        expected, _, written = line.partition("#")[0].partition(":")
+        if expected.strip():
+            parts = [part.partition("*") for part in written.split()]
+            yield expected, b"".join(bytes.fromhex(byte) * int(times or 1) for byte, _, times in parts)
+
+
+def same_refusal(expected, data):
+    good = True
+    for program in ("day-pool", "day-journal"):
+        run = subprocess.run([str(ROOT / program)], input=data, capture_output=True)
+        if run.stdout != f"{expected}\n".encode() or run.returncode != 1:
+            print(f"{program} prints something else than {expected}, or does not end with status 1")
+            good = False
+    return good
+
+
 if sys.argv[1:] == ["--make"]:
     for each in DAYS:
         make(*each)
-elif not all([same(*each) for each in DAYS]):
+elif not all([same(*each) for each in DAYS] + [same_refusal(*each) for each in refused()]):
     sys.exit(1)
 else:
-    print(f"{len(DAYS)} stored days: both programs print what is stored")
+    print(f"{len(DAYS)} stored days, {len(list(refused()))} refused files: both programs print what is stored")

@@ -39,10 +39,11 @@ laid c at new = record { index = slice_set c.index (key_of new) (Some at); place
 abbrev pub pushed : {T : Type 0} → Contents T → Place T → Contents T
 pushed c new = record { index = slice_set c.index (key_of new) (Some c.used); places = slice_set c.places c.used new; used = c.used + 1 }
 
--- What is left where a record finds a place that is not in use, and where it finds none.
+-- What is left where a record finds a place that is not in use.
 abbrev pub Pushed : {T : Type 0} → Contents T → Place T → Contents T → Unit {0} → Type 0
 Pushed old new after done = (old.used < length old.places) × (after ≡ pushed old new)
 
+-- What is left where it finds none: all as it was, and the fault names the hour and the slot.
 abbrev pub Unpushed : {T : Type 0} → Contents T → ℕ → ℕ → Contents T → StoreFault → Type 0
 Unpushed old hour slot after fault = (length old.places ≤ old.used) × (fault ≡ Full hour slot) × (after ≡ old)
 

@@ -28,22 +28,24 @@ fn play<E: Edition, S: Store>(
 
 const DONE: Option<Report> = None;
 
+// A row whose power and price are both outside their limits.
+const WEAK: Schedule = Schedule {
+    generation: -1,
+    prices: DEAR,
+    ..SOLD
+};
+
 #[test]
 fn each_refusal_of_a_schedule_row_and_of_a_reading() -> Result<(), Fail> {
     let mut places = [PLACE; 24];
     let mut pool = Pool::over(&mut places);
     let mut statement = open(24, 0, &pool)?;
-    let bad = Schedule {
-        generation: -1,
-        prices: DEAR,
-        ..SOLD
-    };
     play(
         &mut statement,
         &mut pool,
         &[
-            Case(schedule(24, bad), refused(5, 24, 0)),
-            Case(schedule(23, bad), refused(9, 23, 0)),
+            Case(schedule(24, WEAK), refused(5, 24, 0)),
+            Case(schedule(23, WEAK), refused(9, 23, 0)),
             Case(
                 schedule(
                     23,
@@ -96,6 +98,7 @@ fn each_refusal_of_a_posting_and_of_a_withdrawal() -> Result<(), Fail> {
             Case(post(22, 1, weak), refused(9, 22, 1)),
             Case(post(22, 1, dear), refused(10, 22, 1)),
             Case(post(22, 0, lasting(3_600)), DONE),
+            Case(post(22, 1, dear), refused(10, 22, 1)),
             Case(post(22, 1, lasting(6)), refused(11, 22, 1)),
             Case(post(22, 0, lasting(3_599)), DONE),
             Case(withdraw(23, 24), refused(5, 23, 24)),
@@ -182,18 +185,27 @@ fn records_that_break_a_limit_are_refused_after_the_hour(rt: HostRuntime) -> Res
     let mut places = [PLACE; 24];
     let mut pool = Pool::over(&mut places);
     let mut statement = open(24, 0, &pool)?;
-    assert!(rt;
-        pool.write(3, 0, &lasting(5)).is_ok(),
-        "the store looks at no limit"
-    );
+    for hour in [3, 24] {
+        assert!(rt;
+            pool.write(hour, 0, &lasting(5)).is_ok(),
+            "the store looks at no limit"
+        );
+    }
     play(
         &mut statement,
         &mut pool,
         &[
             Case(post(24, 24, lasting(5)), refused(5, 24, 24)),
+            Case(schedule(24, SOLD), refused(5, 24, 0)),
+            Case(withdraw(24, 0), refused(5, 24, 0)),
+            Case(read(24, 0), refused(5, 24, 0)),
+            Case(unread(24), refused(5, 24, 0)),
+            Case(Call::AskInterval { hour: 24, slot: 0 }, refused(5, 24, 0)),
             Case(post(3, 24, lasting(5)), refused(3, 3, 24)),
             Case(schedule(3, SOLD), refused(3, 3, 0)),
+            Case(schedule(3, WEAK), refused(3, 3, 0)),
             Case(withdraw(3, 0), refused(3, 3, 0)),
+            Case(withdraw(3, 1), refused(3, 3, 1)),
             Case(read(3, -1), refused(3, 3, 0)),
             Case(unread(3), refused(3, 3, 0)),
             Case(Call::AskInterval { hour: 3, slot: 1 }, refused(3, 3, 1)),
