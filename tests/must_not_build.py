@@ -22,7 +22,7 @@ TRIES = (
     ("a statement copied", "let locked = statement.lock();",
      "let copy = statement; let locked = statement.lock();", "use of moved value: `statement`"),
     ("a statement cloned", "let locked = statement.lock();",
-     "let copy = statement.clone(); let locked = statement.lock();", "clone"),
+     "let copy = Clone::clone(&statement); let locked = statement.lock();", "the trait bound `Statement<Newer>: Clone` is not satisfied"),
     ("a locked statement copied", "Ok(locked.day_line())",
      "let copy = locked; Ok(locked.day_line())", "borrow of moved value: `locked`"),
     ("the listing of an open statement", "let locked = statement.lock();",
