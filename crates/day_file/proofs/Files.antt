@@ -2,12 +2,12 @@
 use Rattle.std.proofs.Common.{◌≡◌, ℕ, suc, ◌+◌, ◌-◌, ◌*◌, ◌<◌, ◌≤◌, cond, List, [], ◌∷◌, ◌++◌, length, get_or, take, drop, is_ok, IsErrAnd, Some, None, Ok, Err, Result, sym, refl, ap, ◌∙◌, subst, arith, MatchResult}
 use Rattle.std.specs.List.{flat_map, All}
 use Rattle.std.proofs.lemmas.List.{take_all, length-drop, length_push, drop_more, take-append-drop, drop-drop}
-use Rattle.std.proofs.lemmas.List.Elements.{All-nil, All-push}
+use Rattle.std.proofs.lemmas.List.Elements.{All-push}
 use Rattle.settlement.specs.Rulings.{first}
 use Rattle.book.specs.declared.calls.Change.{Change}
 use Rattle.book.specs.declared.calls.Change.TheVariants.{Scheduled, Posted, Withdrawn, Read, Unread}
 use Rattle.day_file.specs.declared.day.ReadError.{ReadError}
-use Rattle.day_file.specs.declared.day.ReadError.TheVariants.{Refused, NoMemory}
+use Rattle.day_file.specs.declared.day.ReadError.TheVariants.{Refused}
 use Rattle.day_file.specs.declared.faults.FileFault.{FileFault}
 use Rattle.day_file.specs.Numbers.{half, words}
 use Rattle.day_file.specs.Encode.{key, body, header}
@@ -53,10 +53,6 @@ pub record SoFar (bytes : List ℕ) (n i : ℕ) (calls : List Change) : Type 0 w
   pub rest : entries_fault bytes (n - i) (6 + 4 * i) (6 + 4 * n + 48 * i) ≡ entries_fault bytes n 6 (6 + 4 * n)
   pub fit : All Fit calls
 
-pub SoFar_none : (bytes : List ℕ) (n : ℕ) (calls : List Change) → calls ≡ [] → SoFar bytes n 0 calls
-SoFar_none bytes n calls e =
-    subst (SoFar bytes n 0) (sym e) (record { many = refl; keys = refl; bodies = refl; rest = same_entries bytes (omega arith) refl (omega arith); fit = All-nil Fit })
-
 module _ (bytes : List ℕ) (n i : ℕ) (calls : List Change) (long : length bytes ≡ 6 + 52 * n) (lt : i < n) (s : SoFar bytes n i calls) where
   pub so_far_more : (c : Change) → key c ≡ take 4 (drop (6 + 4 * i) bytes) → body c ≡ take 48 (drop (6 + 4 * n + 48 * i) bytes) → Fit c → SoFar bytes n (i + 1) (calls ++ c ∷ [])
   so_far_more c p q f = record {
@@ -95,14 +91,10 @@ module _ (bytes : List ℕ) (n : ℕ) (is : n ≡ count_in bytes) (e : opening_f
             ∙ ap (λ x. get_or bytes 0 0 ∷ get_or bytes 1 0 ∷ get_or bytes 2 0 ∷ 0 ∷ (x ++ drop 6 bytes)) (sym hh) ∙ ap (λ x. header (header_in bytes) (length calls) ++ x) (sym j);
       }
 
--- A refusal that is passed on, and want of memory.
+-- A refusal that is passed on.
 pub told_fault : {T : Type 0} (r : Result T ReadError) (P : T → Type 0) (bytes : List ℕ) (f : FileFault) → IsErrAnd r (λ y. y ≡ Refused f) → file_fault bytes ≡ Some f → MatchResult r P (λ y. Told y bytes)
 told_fault (Ok x) P bytes f by e = absurd by
 told_fault (Err y) P bytes f by e = subst (λ x. Told x bytes) (sym by) e
-
-pub told_memory : {T : Type 0} (r : Result T ReadError) (P : T → Type 0) (bytes : List ℕ) → IsErrAnd r (λ y. y ≡ NoMemory) → opening_fault bytes ≡ None → MatchResult r P (λ y. Told y bytes)
-told_memory (Ok x) P bytes by e = absurd by
-told_memory (Err y) P bytes by e = subst (λ x. Told x bytes) (sym by) e
 
 -- A vector after a push for which there was room.
 pub pushed : {T E : Type 0} {new : List Change} (old : List Change) (c : Change) (r : Result T E) (x : T) → new ≡ cond (is_ok r) (old ++ c ∷ []) old → r ≡ Ok x → new ≡ old ++ c ∷ []
