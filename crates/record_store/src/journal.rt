@@ -1,5 +1,5 @@
 // A store that only adds entries: each change to a slot is one more, and the latest for a slot counts.
-ghost use Rattle.std.specs.Prelude.{◌≡◌, ◌+◌, length, Some, None, MatchResult, OnErr};
+ghost use Rattle.std.specs.Prelude.{◌≡◌, ◌+◌, length, take, Some, None, IfOk, MatchResult, OnErr};
 ghost use Rattle.settlement.specs.Rulings.{ruled, changed};
 ghost use Rattle.record_store.specs.Meaning.{fresh, full_refused, rewritten};
 ghost use Rattle.record_store.specs.Places.{places_refused, capacity_of};
@@ -22,16 +22,18 @@ pub struct Journal<'a> {
 impl<'a> Journal<'a> {
     // An empty journal with as many places as are lent, or none where a store may not have so many.
     pub fn over(places: &'a mut [Place<Option<Interval>>]) -> Journal<'a>
-        ensures { journal_means (contents result.shelf) ≡ fresh (capacity_of (length places.old)) 1 }
+        ensures means { journal_means (contents result.shelf) ≡ fresh (capacity_of (length places.old)) 1 }
+        ensures memory { result.shelf.places.now ≡ take (capacity_of (length places.old)) places.old }
     {
         Journal {
             shelf: Shelf::over(places),
         }
     }
 
-    // An empty journal, whatever the memory held, if a store may have so many places.
+    // An empty journal over just this memory, whatever it held, if a store may have so many places. The memory is as it was.
     pub fn new(places: &'a mut [Place<Option<Interval>>]) -> Result<Journal<'a>, StoreFault>
-        ensures { MatchResult result (λ j. (places_refused (length places.old) ≡ None) × (journal_means (contents j.shelf) ≡ fresh (length places.old) 1)) (λ e. places_refused (length places.old) ≡ Some e) }
+        ensures memory { IfOk result (λ j. j.shelf.places.now ≡ places.old) }
+        ensures means { MatchResult result (λ j. (places_refused (length places.old) ≡ None) × (journal_means (contents j.shelf) ≡ fresh (length places.old) 1)) (λ e. places_refused (length places.old) ≡ Some e) }
     {
         check_places(places.len())?;
         Ok(Journal::over(places))

@@ -1,5 +1,5 @@
 // A store that reuses its places: as much is spent as stands, and a rewrite costs nothing.
-ghost use Rattle.std.specs.Prelude.{◌≡◌, ◌+◌, ◌-◌, length, Some, None, MatchResult, OnErr};
+ghost use Rattle.std.specs.Prelude.{◌≡◌, ◌+◌, ◌-◌, length, take, Some, None, IfOk, MatchResult, OnErr};
 ghost use Rattle.settlement.specs.declared.figures.Interval.{Interval};
 ghost use Rattle.record_store.specs.declared.places.Place.{Place};
 ghost use Rattle.settlement.specs.Rulings.{ruled, changed};
@@ -27,16 +27,18 @@ pub struct Pool<'a> {
 impl<'a> Pool<'a> {
     // An empty pool with as many places as are lent, or none where a store may not have so many.
     pub fn over(places: &'a mut [Place<Interval>]) -> Pool<'a>
-        ensures { pool_means (contents result.shelf) ≡ fresh (capacity_of (length places.old)) 0 }
+        ensures means { pool_means (contents result.shelf) ≡ fresh (capacity_of (length places.old)) 0 }
+        ensures memory { result.shelf.places.now ≡ take (capacity_of (length places.old)) places.old }
     {
         Pool {
             shelf: Shelf::over(places),
         }
     }
 
-    // An empty pool, whatever the memory held, if a store may have so many places.
+    // An empty pool over just this memory, whatever it held, if a store may have so many places. The memory is as it was.
     pub fn new(places: &'a mut [Place<Interval>]) -> Result<Pool<'a>, StoreFault>
-        ensures { MatchResult result (λ p. (places_refused (length places.old) ≡ None) × (pool_means (contents p.shelf) ≡ fresh (length places.old) 0)) (λ e. places_refused (length places.old) ≡ Some e) }
+        ensures memory { IfOk result (λ p. p.shelf.places.now ≡ places.old) }
+        ensures means { MatchResult result (λ p. (places_refused (length places.old) ≡ None) × (pool_means (contents p.shelf) ≡ fresh (length places.old) 0)) (λ e. places_refused (length places.old) ≡ Some e) }
     {
         check_places(places.len())?;
         Ok(Pool::over(places))
@@ -76,7 +78,12 @@ impl<'a> Store for Pool<'a> {
     ghost lawful = { λ p. pool_lawful (contents p.shelf) p.shelf.within };
 
     fn read(&self, hour: u8, slot: u8) -> Option<Interval> {
-        self.shelf.get(Key::new(hour, slot).ok()?)
+        // Not by `Shelf::get`, through which a record would be copied once more.
+        let Ok(key) = Key::new(hour, slot) else {
+            return None;
+        };
+        let at = self.shelf.find(key)?;
+        Some(self.shelf.places[at as usize].content)
     }
 
     fn write(&mut self, hour: u8, slot: u8, interval: &Interval) -> Result<(), StoreFault> {

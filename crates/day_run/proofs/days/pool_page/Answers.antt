@@ -6,4 +6,4 @@ use Rattle.day_run.proofs.days.pool_page.Goals as goal
 
 pub returns : goal.returns
 returns c =
-    first_paged vec_items 600 0 c.args.bytes.now _ _ c.day_page.result (c.over.ensures ∙ ap (λ n. fresh (capacity_of n) 0) (c.as_mut_slice.ensures.len ∙ c.in_ok-places.ensures.len)) c.day_page.ensures
+    first_paged vec_items 600 0 c.args.bytes.now _ _ c.day_page.result (c.over.ensures.means ∙ ap (λ n. fresh (capacity_of n) 0) (c.as_mut_slice.ensures.len ∙ c.in_ok-places.ensures.len)) c.day_page.ensures
